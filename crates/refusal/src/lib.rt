@@ -1,7 +1,6 @@
 // Why a call is refused or a tape faulted: the closed set of reasons, each with its number and its layer.
 ghost use mathlib.Core.Path.{_≡_};
 ghost use Rattle.refusal.specs.Numbers.{code, depth, layer-of};
-
 use std::fmt;
 use std::fmt::Display;
 use std::fmt::Formatter;
@@ -92,13 +91,15 @@ impl Refusal {
             Refusal::NumberTooLarge => "the block number is not below the card's bound",
             Refusal::NumberBusy => "the block number is busy: a grant for it is out",
             Refusal::NoBlockWaiting => "no blank block is waiting",
-            Refusal::BlockMapFull => "the block map is full: the number does not fit beside those held",
+            Refusal::BlockMapFull =>
+                "the block map is full: the number does not fit beside those held",
             Refusal::NoSuchGrant => "no such grant is out here",
             Refusal::StreamAlreadyOpen => "the stream is already open",
             Refusal::StreamNotOpen => "the stream is not open",
             Refusal::StreamAtEnd => "the stream has reached its end",
             Refusal::BadLength => "the length is 0 or passes the card's bound",
-            Refusal::StreamMapFull => "the stream map is full: the label does not fit beside those held",
+            Refusal::StreamMapFull =>
+                "the stream map is full: the label does not fit beside those held",
             Refusal::FieldCutShort => "the tape ends inside this field",
             Refusal::UnknownTag => "the tag is unknown",
             Refusal::WrongFieldLength => "the field's length is wrong for its tag",

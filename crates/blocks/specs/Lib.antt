@@ -1,0 +1,5 @@
+pub mod Turns
+pub mod Pool
+pub mod Stores
+pub mod Service
+pub mod Making

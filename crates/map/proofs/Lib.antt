@@ -1,0 +1,4 @@
+-- The lemmas of the crate.
+pub mod Sets
+pub mod Room
+mod Agreement

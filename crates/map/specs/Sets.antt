@@ -1,0 +1,35 @@
+-- Sets of numbers: a set is a test, and a list of its members says how many it has.
+--   member n xs   whether n stands in the list xs
+--   Distinct xs   no number stands twice in xs
+--   Part s t      each member of s is one of t
+--   Counts s k    s has exactly k members
+--   AtMost k s    s has at most k members
+-- Assumes nothing.
+use Prim.Native.Nat.{ℕ, _≤_}
+use mathlib.Core.Path.{_≡_}
+use mathlib.Core.Bool.{Bool, true, false, cond}
+use mathlib.Core.List.{List, [], _∷_}
+use lib.Dec.{eqb}
+use lib.ListN.{length}
+
+abbrev pub member : ℕ → List ℕ → Bool
+member n [] = false
+member n (x ∷ xs) = cond (eqb n x) true (member n xs)
+
+abbrev pub Distinct : List ℕ → Type 0
+Distinct [] = Unit {0}
+Distinct (x ∷ xs) = (member x xs ≡ false) × Distinct xs
+
+abbrev pub Part : (ℕ → Bool) → (ℕ → Bool) → Type 0
+Part s t = (n : ℕ) → s n ≡ true → t n ≡ true
+
+pub record Counts (s : ℕ → Bool) (k : ℕ) : Type 0 where
+  pub list : List ℕ
+  pub apart : Distinct list
+  pub long : length list ≡ k
+  pub exact : (n : ℕ) → member n list ≡ s n
+
+pub record AtMost (k : ℕ) (s : ℕ → Bool) : Type 0 where
+  pub list : List ℕ
+  pub short : length list ≤ k
+  pub covers : (n : ℕ) → s n ≡ true → member n list ≡ true

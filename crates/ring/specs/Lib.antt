@@ -1,0 +1,2 @@
+-- What the ring's contracts cite.
+pub mod Queue

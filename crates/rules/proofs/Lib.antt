@@ -1,0 +1,6 @@
+pub mod Lists
+pub mod Places
+pub mod Runs
+pub mod Counts
+pub mod Answers
+pub mod Progress

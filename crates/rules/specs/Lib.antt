@@ -1,0 +1,5 @@
+pub mod Sets
+pub mod Calls
+pub mod Rules
+pub mod History
+pub mod Laws

@@ -1,0 +1,6 @@
+-- The lemmas of the crate.
+mod Walks
+mod Lookups
+mod Changes
+mod Area
+mod Fits
