@@ -5,3 +5,4 @@ pub mod Ending
 pub mod Reading
 pub mod Passing
 pub mod Making
+pub mod Fixed

@@ -3,6 +3,7 @@
 --   limits-of s, standing s   the limits of a service, and where it stands
 --   Lived h s        the history h led the fresh service to s; all that the code relies on follows from it
 --   Goes s c a t     after every history that led to s, the call c answered by a leads to t
+--   Fixed s t        the sizes and both fits stay, as what every call leaves shows
 --   Through s k n r t   the same for a begin and its ending in one
 --   Faulty s a t     a service whose check failed answers that refusal, and nothing changes
 --   Leaves s f q d o g t   every pair, pool cell, mark and counter that a call leaves
@@ -136,6 +137,13 @@ module _ {L B S : Type 0} (bm : Ghosts B L Entry) (sm : Ghosts S StreamLabel Pos
 
   abbrev pub Goes : Blocks L B S → Call → Answer → Blocks L B S → Type 0
   Goes s c a t = (h : History) → Lived h s → Lived ((c, a) ∷ h) t
+
+  -- the sizes and both fits stay
+  pub record Fixed (s t : Blocks L B S) : Type 0 where
+    pub limit : t .limit ≡ s .limit
+    pub places : places (t .pool) ≡ places (s .pool)
+    pub blocks : bm .shape (t .entries) ≡ bm .shape (s .entries)
+    pub streams : sm .shape (t .streams) ≡ sm .shape (s .streams)
 
   -- the same for a begin and its ending k in one: a grant just given is never refused its ending
   abbrev pub Passed : History → Ending → ℕ → Result ℕ Refusal → Blocks L B S → Type 0

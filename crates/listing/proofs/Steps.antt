@@ -22,7 +22,8 @@ use Rattle.blocks.specs.declared.entry.Ending.{Ending}
 use Rattle.blocks.specs.declared.entry.Ending.the-variants.{Commit, Abandon, Condemn}
 use Rattle.blocks.specs.declared.state.Blocks.{Blocks}
 use Rattle.blocks.specs.Service as service
-use Rattle.blocks.specs.Service.{Lived, finished, found, tallied}
+use Rattle.blocks.proofs.Fixed.{fixed-none, fixed-more, reads-fixed, trims-fixed, passes-fixed}
+use Rattle.blocks.specs.Service.{Lived, Fixed, finished, found, tallied}
 use Rattle.tape.specs.declared.calls.Call.{Call}
 use Rattle.tape.specs.declared.calls.Call.the-variants.{Write, Drop, Spoil, Read, Trim, Tally as CallTally}
 use Rattle.tape.specs.declared.faults.Fault.{Fault as TapeFault}
@@ -60,20 +61,20 @@ module _ {X : Type 0} (x y : X) where
   tally-fault e (Err d) o q f z = (q ∙ ap Fault (same-refusal d e f), z)
 
 module _ {L B S : Type 0} (bm : Ghosts B L Entry) (sm : Ghosts S StreamLabel Position) (s t : Blocks L B S) where
-  passing : (h : History) (k : Ending) (n : ℕ) (o : Outcome) → Passed bm sm s k n o t → Lived bm sm h s → (new : History) × Passing k n o new × Lived bm sm (new ++ h) t
-  passing h k n o p lived = go (p .answer) (p .outcome) (p .step h lived)
+  passing : (h : History) (k : Ending) (n : ℕ) (o : Outcome) → Passed bm sm s k n o t → Lived bm sm h s → (new : History) × Passing k n o new × Lived bm sm (new ++ h) t × Fixed bm sm s t
+  passing h k n o p lived = go (p .answer) (p .outcome) (p .step h lived) (passes-fixed bm sm s t k n (p .answer) (p .leaves (lived .blocks-kept)))
     where
-      go : (r : Result ℕ Refusal) → o ≡ ended-outcome r → service.Passed bm sm h k n r t → (new : History) × Passing k n o new × Lived bm sm (new ++ h) t
-      go (Ok b) e after = (passed k n (Ok b), (Ok b, e, refl), after)
-      go (Err x) e after = (passed k n (Err x), (Err x, e, refl), after)
+      go : (r : Result ℕ Refusal) → o ≡ ended-outcome r → service.Passed bm sm h k n r t → Fixed bm sm s t → (new : History) × Passing k n o new × Lived bm sm (new ++ h) t × Fixed bm sm s t
+      go (Ok b) e after fixed = (passed k n (Ok b), (Ok b, e, refl), after, fixed)
+      go (Err x) e after fixed = (passed k n (Err x), (Err x, e, refl), after, fixed)
 
-  tells : (h : History) (c : Call) (o : Outcome) → Obeys bm sm s c o t → Lived bm sm h s → (new : History) × Tells c o new × Lived bm sm (new ++ h) t
+  tells : (h : History) (c : Call) (o : Outcome) → Obeys bm sm s c o t → Lived bm sm h s → (new : History) × Tells c o new × Lived bm sm (new ++ h) t × Fixed bm sm s t
   tells h (Write n) o p lived = passing h Commit n o p lived
   tells h (Drop n) o p lived = passing h Abandon n o p lived
   tells h (Spoil n) o p lived = passing h Condemn n o p lived
-  tells h (Read n) o p lived = (_, (p .answer, p .outcome, refl), p .step h lived)
-  tells h (Trim n) o p lived = (_, (p .answer, p .outcome, refl), p .step h lived)
-  tells h CallTally o p lived = (_, (p .answer, p .outcome, refl), p .step h lived)
+  tells h (Read n) o p lived = (_, (p .answer, p .outcome, refl), p .step h lived, reads-fixed bm sm s t n (p .answer) (p .leaves (lived .blocks-kept)))
+  tells h (Trim n) o p lived = (_, (p .answer, p .outcome, refl), p .step h lived, trims-fixed bm sm s t n (p .answer) (p .leaves (lived .blocks-kept)))
+  tells h CallTally o p lived = (_, (p .answer, p .outcome, refl), p .step h lived, subst (Fixed bm sm s) (sym (p .same)) (fixed-none bm sm s))
 
   -- a service whose check failed
   refuses-all : (e : Refusal) (c : Call) (o : Outcome) → s .fault ≡ Some e → Obeys bm sm s c o t → (o ≡ Fault e) × (t ≡ s)
@@ -92,20 +93,21 @@ faulted-more e (x ∷ rs) r = ap (λ ls. record { place = x .place; outcome = Fa
 
 module _ {L B S : Type 0} (bm : Ghosts B L Entry) (sm : Ghosts S StreamLabel Position) (z : Blocks L B S) where
   pub plays-none : PlaysOn bm sm z [] [] z
-  plays-none = record { lives = λ h lived. ([], nothing, lived); faulty = λ e f. (refl, refl) }
+  plays-none = record { lives = λ h lived. ([], nothing, lived, fixed-none bm sm z); faulty = λ e f. (refl, refl) }
 
   module _ (s t : Blocks L B S) (rs : List Reading) (ls : List Line) (on : PlaysOn bm sm z rs ls s) where
     lives-on : (p : ℕ) (x : Result Call Refusal) (o : Outcome) → Came bm sm s x o t → (h : History) → Lived bm sm h z
-        → (new : History) × Plays (rs ++ record { place = p; outcome = x } ∷ []) (ls ++ record { place = p; outcome = o } ∷ []) new × Lived bm sm (new ++ h) t
+        → (new : History) × Plays (rs ++ record { place = p; outcome = x } ∷ []) (ls ++ record { place = p; outcome = o } ∷ []) new × Lived bm sm (new ++ h) t × Fixed bm sm z t
     lives-on p (Ok c) o came h lived =
         let before = on .lives h lived in
         let after = tells bm sm s t (before .0 ++ h) c o came (before .2) in
-        (after .0 ++ before .0, call rs ls (before .0) p c o (after .0) (before .1) (after .1), rw append-assoc (after .2))
+        (after .0 ++ before .0, call rs ls (before .0) p c o (after .0) (before .1) (after .1), rw append-assoc (after .2), fixed-more bm sm z s t (before .3) (after .3))
     lives-on p (Err e) o (eo, et) h lived =
         let before = on .lives h lived in (
           before .0,
           subst (λ q. Plays (rs ++ record { place = p; outcome = Err e } ∷ []) (ls ++ record { place = p; outcome = q } ∷ []) (before .0)) (sym eo) (fault rs ls (before .0) p e (before .1)),
           subst (Lived bm sm (before .0 ++ h)) (sym et) (before .2),
+          subst (Fixed bm sm z) (sym et) (before .3),
         )
 
     faults-on : (e : Refusal) (x : Result Call Refusal) (o : Outcome) → s .fault ≡ Some e → Came bm sm s x o t → (o ≡ Fault (fault-of e x)) × (t ≡ s)

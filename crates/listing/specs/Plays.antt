@@ -26,7 +26,7 @@ use Rattle.rules.specs.History.{History}
 use Rattle.blocks.specs.declared.entry.Ending.{Ending}
 use Rattle.blocks.specs.declared.entry.Ending.the-variants.{Commit, Abandon, Condemn}
 use Rattle.blocks.specs.declared.state.Blocks.{Blocks}
-use Rattle.blocks.specs.Service.{Lived, found, tallied, end-call, pass}
+use Rattle.blocks.specs.Service.{Lived, Fixed, found, tallied, end-call, pass}
 use Rattle.tape.specs.declared.calls.Call.{Call}
 use Rattle.tape.specs.declared.calls.Call.the-variants.{Write, Drop, Spoil, Read, Trim, Tally as CallTally}
 use Rattle.tape.specs.declared.fields.Reading.{Reading}
@@ -87,7 +87,7 @@ module _ {L B S : Type 0} (bm : Ghosts B L Entry) (sm : Ghosts S StreamLabel Pos
     pub came : Came s (r .outcome) (l .outcome) t
 
   pub record PlaysOn (s : Blocks L B S) (rs : List Reading) (ls : List Line) (t : Blocks L B S) : Type 0 where
-    pub lives : (h : History) → Lived bm sm h s → (new : History) × Plays rs ls new × Lived bm sm (new ++ h) t
+    pub lives : (h : History) → Lived bm sm h s → (new : History) × Plays rs ls new × Lived bm sm (new ++ h) t × Fixed bm sm s t
     pub faulty : (e : Refusal) → s .fault ≡ Some e → (ls ≡ faulted e rs) × (t ≡ s)
 
   abbrev pub Played : List ℕ → Blocks L B S → List Line → Blocks L B S → Type 0

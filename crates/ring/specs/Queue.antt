@@ -4,6 +4,7 @@
 --   held-in xs h n     the contents by a head and a count of any size
 --   items r            what waits in the ring r, the front first
 --   places r           how many values r has room for
+--   around h n m       the cell n further than h, round the end of m cells
 --   back r             the cell behind the last value of r, round the end
 --   Empty c r, Full c r   a ring made over the lent cells c, holding none or all of them
 --   Pushes r x b t     pushing x at r answers b and leaves t
@@ -38,7 +39,6 @@ items r = held-in (r .cells .now) (r .head) (r .count)
 abbrev pub places : {X : Type 0} → Ring X → ℕ
 places r = length (r .cells .now)
 
--- h cells from the start, and n further, round the end of m cells
 abbrev pub around : ℕ → ℕ → ℕ → ℕ
 around h n m = cond (ltb (h + n) m) (h + n) (h + n - m)
 

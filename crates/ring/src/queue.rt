@@ -1,4 +1,5 @@
 // The queue itself: a ring buffer over a lent slice of cells.
+mod cells;
 mod methods;
 
 // The values stand in `count` cells from `head` on, and go on at the first cell after the last.

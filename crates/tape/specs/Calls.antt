@@ -4,6 +4,8 @@
 --   tag-of c        the tag of a field that makes the call c
 --   contents-of c   its contents
 --   number-in xs    the number in contents of exactly four bytes
+--   making k o      the call that k makes of what was read
+--   bare c xs       the call c, of a field without contents
 --   decoded t xs    the call of a field of tag t and contents xs, or why it is none
 --   Small c         the number of c has four bytes at most
 --   Decodes t xs o  o is what such a field means, by the calls' tags and contents alone
@@ -52,12 +54,10 @@ number-in (a ∷ b ∷ c ∷ []) = Err WrongFieldLength
 number-in (a ∷ b ∷ c ∷ d ∷ []) = Ok (four a b c d)
 number-in (a ∷ b ∷ c ∷ d ∷ e ∷ r) = Err WrongFieldLength
 
--- the call that k makes of what was read
 abbrev pub making : {X : Type 0} → (X → Call) → Result X Refusal → Result Call Refusal
 making k (Ok x) = Ok (k x)
 making k (Err e) = Err e
 
--- the call of a field without contents
 abbrev pub bare : Call → List ℕ → Result Call Refusal
 bare c [] = Ok c
 bare c (x ∷ xs) = Err WrongFieldLength

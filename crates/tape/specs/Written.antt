@@ -1,6 +1,7 @@
 -- Calls written as a tape, and what such a tape says.
 --   encoded c       the field of the call c
 --   written cs      the tape of the calls cs, field after field
+--   All-small cs    the numbers of the calls cs have four bytes at most
 --   placed p cs     the readings of those calls, where the first field stands at the place p
 --   Written-reads   a tape that is written from calls says those calls
 --   Only-written    a tape of bytes that says calls and no fault is the one that is written from those calls

@@ -1,29 +1,18 @@
 // What a ring is made from, what it holds, and how a value enters and leaves it.
 ghost use mathlib.Core.Path.{_≡_};
-ghost use Prim.Native.Nat.{_<_, _≤_};
-ghost use lib.ListN.{length, getD};
+ghost use Prim.Native.Nat.{_≤_};
+ghost use lib.ListN.{length};
 ghost use Rattle.std.specs.Finite.{nth};
-ghost use Rattle.ring.specs.Queue.{items, places, start, back, Empty, Full, Pushes, Pops};
+ghost use Rattle.ring.specs.Queue.{items, places, Empty, Full, Pushes, Pops};
 use super::Ring;
-
-// The value in a cell.
-fn cell<T: Copy>(cells: &[T], at: usize) -> T
-    requires { ⌜ at < length (now cells) ⌝ }
-    ensures { λ r. ⌜ r ≡ getD (now (cells .entry)) at r ⌝ }
-{
-    cells[at]
-}
+use super::cells::value;
 
 impl<'a, T: Copy> Ring<'a, T> {
     // An empty queue over the cells.
     pub fn new(cells: &'a mut [T]) -> Ring<'a, T>
         ensures { λ r. ⌜ Empty (cells .entry) r ⌝ }
     {
-        Ring {
-            cells,
-            head: 0,
-            count: 0,
-        }
+        Ring::over(cells, 0)
     }
 
     // A queue that holds what all the cells hold, the first cell at the front.
@@ -31,11 +20,7 @@ impl<'a, T: Copy> Ring<'a, T> {
         ensures { λ r. ⌜ Full (cells .entry) r ⌝ }
     {
         let count = cells.len();
-        Ring {
-            cells,
-            head: 0,
-            count,
-        }
+        Ring::over(cells, count)
     }
 
     // How many values wait.
@@ -43,7 +28,7 @@ impl<'a, T: Copy> Ring<'a, T> {
         ensures count { λ r. ⌜ r ≡ length (items (now (self .entry))) ⌝ }
         ensures bound { λ r. ⌜ r ≤ places (now (self .entry)) ⌝ }
     {
-        self.count.min(self.cells.len())
+        self.taken()
     }
 
     // How many values there is room for, counting those that wait.
@@ -53,17 +38,6 @@ impl<'a, T: Copy> Ring<'a, T> {
         self.cells.len()
     }
 
-    // The cell of the front value, or where it would stand.
-    fn front_cell(&self) -> usize
-        ensures { λ r. ⌜ r ≡ start (now (self .entry) .head) (places (now (self .entry))) ⌝ }
-    {
-        if self.head < self.cells.len() {
-            self.head
-        } else {
-            0
-        }
-    }
-
     // The value that would leave next.
     pub fn front(&self) -> Option<T>
         ensures { λ r. ⌜ r ≡ nth (items (now (self .entry))) 0 ⌝ }
@@ -71,25 +45,19 @@ impl<'a, T: Copy> Ring<'a, T> {
         if self.len() == 0 {
             return None;
         }
-        Some(cell(self.cells, self.front_cell()))
+        Some(value(self.cells, self.front_cell()))
     }
 
     // Puts x at the back; false, and nothing changed, where every cell is taken.
     pub fn push_back(&mut self, x: T) -> bool
         ensures { λ r. ⌜ Pushes (now (self .entry)) x r (now (self .exit)) ⌝ }
     {
-        let n = self.cells.len();
         let count = self.len();
-        if count >= n {
+        if count >= self.capacity() {
             return false;
         }
         let head = self.front_cell();
-        let room = n - head;
-        let at = if count < room {
-            head + count
-        } else {
-            count - room
-        };
+        let at = self.back_cell();
         self.cells[at] = x;
         self.head = head;
         self.count = count + 1;
@@ -106,8 +74,7 @@ impl<'a, T: Copy> Ring<'a, T> {
         }
         let at = self.front_cell();
         let x = self.cells[at];
-        self.head = at + 1;
-        self.count = count - 1;
+        self.pass(at, count - 1);
         Some(x)
     }
 }

@@ -1,3 +1,4 @@
+-- As many values wait as cells are taken.
 use mathlib.Core.Path.{sym, _∙_}
 use native.Mathlib.Omega.{arith}
 use lib.ListN.{length}
@@ -8,6 +9,6 @@ pub returns : need.returns
 returns g c =
     let n = length (c .args .self .now .cells .now) in
     record {
-      count = c .min .ensures ∙ sym (contents-length (c .args .self .now .cells .now) _ _ (start-within (c .args .self .now .head) n) (omega arith));
+      count = c .taken .ensures ∙ sym (contents-length (c .args .self .now .cells .now) _ _ (start-within (c .args .self .now .head) n) (omega arith));
       bound = omega arith;
     }

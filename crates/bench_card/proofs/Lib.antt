@@ -1,0 +1,2 @@
+-- From a fresh service to the rules alone.
+pub mod Listing

@@ -1,0 +1,2 @@
+-- What the bench's card promises.
+pub mod Card
