@@ -14,12 +14,12 @@ use Rattle.std.specs.declared.result.Result.the-variants.{Ok}
 use Rattle.std.specs.shelf.Maps.{update}
 use Rattle.label.specs.declared.stream.StreamLabel.{StreamLabel}
 use Rattle.map.specs.declared.Map.{Ghosts}
+use Rattle.map.specs.Sets.{Number}
 use Rattle.map.specs.Meaning.{Finds}
 use Rattle.ring.specs.declared.queue.Ring.{Ring}
 use Rattle.ring.specs.Queue.{items, places}
 use Rattle.rules.specs.declared.Entry.{Entry}
 use Rattle.rules.specs.declared.Position.{Position}
-use Rattle.rules.specs.Sets.{Number}
 use Rattle.rules.specs.Calls.{Limits, Standing, Call, Answer}
 use Rattle.rules.specs.Calls.Call.{trim}
 use Rattle.rules.specs.Calls.Answer.{block}

@@ -11,16 +11,16 @@ use Rattle.std.specs.declared.option.Option.the-variants.{Some, None}
 use Rattle.refusal.specs.declared.Refusal.{Refusal}
 use Rattle.label.specs.declared.stream.StreamLabel.{StreamLabel}
 use Rattle.map.specs.declared.Map.{Ghosts}
+use Rattle.map.specs.Sets.{Number}
+use Rattle.map.proofs.Lists.{distinct-below}
 use Rattle.ring.specs.declared.queue.Ring.{Ring}
 use Rattle.ring.specs.Queue.{items, places}
 use Rattle.rules.specs.declared.Entry.{Entry}
 use Rattle.rules.specs.declared.Position.{Position}
-use Rattle.rules.specs.Sets.{_∈_, Distinct, Number, counted}
 use Rattle.rules.specs.Calls.{Limits, limits, Standing, Call, Answer}
 use Rattle.rules.specs.Calls.Answer.{refused}
 use Rattle.rules.specs.Rules.{Step, checks, out-of}
 use Rattle.rules.specs.History.{History, Run, ledger, grants, endings}
-use Rattle.rules.proofs.Lists.{fewer, in-counted, length-counted}
 use Rattle.rules.specs.Laws.{First}
 use Rattle.rules.proofs.Places.{apart, some-none}
 use Rattle.rules.proofs.Places.Place.{waits, out-at, retired}
@@ -41,22 +41,17 @@ module _ (k : Limits) (h : History) (s : Standing) (run : Run k h s) where
   pub ends-once : endings h ≤ grants h
   ends-once = omega (arith, good .outs .2)
 
-  few : (xs : List ℕ) → Distinct xs → ((x : ℕ) → x ∈ xs → x < k .blocks) → length xs ≤ k .blocks
-  few xs d below =
-      let l : length xs ≤ length (counted 0 (k .blocks)) = fewer xs (counted 0 (k .blocks)) d (λ x i. in-counted 0 (k .blocks) x .1 (let b = below x i in (omega arith, omega arith))) in
-      omega (arith, l, length-counted 0 (k .blocks))
-
   pub outs-below : (o : ℕ) → o + endings h ≡ grants h → o ≤ k .blocks
   outs-below o sum =
       let num = good .outs .1 in
-      omega (arith, few (num .0) (num .1) (λ x i. let a = num .2 x .0 i in good .placed .no-other x (out-at (a .0)) (a .1)), num .3, good .outs .2)
+      omega (arith, distinct-below (k .blocks) (num .0) (num .1) (λ x i. let a = num .2 x .0 i in good .placed .no-other x (out-at (a .0)) (a .1)), num .3, good .outs .2)
 
   pub waits-below : length (s .waiting) ≤ k .blocks
   waits-below =
-      rw (good .pool) (few (ledger (k .blocks) h .waiting) (good .placed .once) (λ x i. good .placed .no-other x waits i))
+      rw (good .pool) (distinct-below (k .blocks) (ledger (k .blocks) h .waiting) (good .placed .once) (λ x i. good .placed .no-other x waits i))
 
   pub condemned-below : (g : ℕ) → Number (λ b. s .condemned b ≡ true) g → g ≤ k .blocks
-  condemned-below g num = omega (arith, few (num .0) (num .1) (λ x i. good .placed .no-other x retired (sym (good .marks x) ∙ num .2 x .0 i)), num .3)
+  condemned-below g num = omega (arith, distinct-below (k .blocks) (num .0) (num .1) (λ x i. good .placed .no-other x retired (sym (good .marks x) ∙ num .2 x .0 i)), num .3)
 
   module _ (n b : ℕ) (out : out-of (s .entries n) ≡ Some b) where
     here : ledger (k .blocks) h .out n ≡ Some b

@@ -5,22 +5,21 @@ use mathlib.Core.Bool.{Bool, true, false}
 use mathlib.Core.List.{List, [], _∷_}
 use native.Mathlib.Omega.{arith}
 use native.Mathlib.Numerals.{add-one}
-use lib.Dec.{eqb}
 use lib.ListN.{length, replicate, length-replicate}
 use Rattle.std.specs.declared.option.Option.{Option}
 use Rattle.std.specs.declared.option.Option.the-variants.{Some, None}
 use Rattle.std.specs.Options.{isSome}
 use Rattle.std.specs.Iters.{counting}
-use Rattle.std.proofs.shelf.Tests.{false≢true, true≢false, cond-true, eq-eqb}
+use Rattle.std.proofs.shelf.Tests.{false≢true, true≢false}
 use Rattle.label.specs.declared.stream.StreamLabel.{StreamLabel}
 use Rattle.map.specs.declared.Map.{Ghosts}
-use Rattle.map.specs.Sets.{Counts, member}
+use Rattle.map.specs.Sets.{member, counted, Number, Counts}
 use Rattle.map.specs.Meaning.{held}
+use Rattle.map.proofs.Lists.{in-head}
+use Rattle.map.proofs.Sets.{number-none}
 use Rattle.ring.specs.Queue.{items, places}
 use Rattle.rules.specs.declared.Entry.{Entry}
 use Rattle.rules.specs.declared.Position.{Position}
-use Rattle.rules.specs.Sets.{Number, counted}
-use Rattle.rules.proofs.Lists.{number-none}
 use Rattle.blocks.specs.declared.pool.Mark.{Mark}
 use Rattle.blocks.specs.declared.pool.Mark.the-variants.{Sound}
 use Rattle.blocks.specs.declared.state.Blocks.{Blocks}
@@ -43,7 +42,7 @@ counts-none f k c none = go (c .list) (c .long) (c .exact)
   where
     go : (xs : List ℕ) → length xs ≡ k → ((n : ℕ) → member n xs ≡ held f n) → k ≡ 0
     go [] e x = sym e
-    go (y ∷ ys) e x = absurd (true≢false (sym (cond-true (eqb y y) true (member y ys) (eq-eqb y y refl)) ∙ x y ∙ ap isSome (none y)))
+    go (y ∷ ys) e x = absurd (true≢false (sym (in-head y ys) ∙ x y ∙ ap isSome (none y)))
 
 pub counts-zero : {V : Type 0} (f : ℕ → Option V) (k : ℕ) → k ≡ 0 → Counts (held f) k → Empty f
 counts-zero f k z c = go (c .list) (c .long) (c .exact)

@@ -61,9 +61,6 @@ ends-out k r s Abandon n b a out (inr i) = i .1 .0
 ends-out k r s Condemn n b a out (inl i) = absurd (i .0 out)
 ends-out k r s Condemn n b a out (inr i) = i .1 .0
 
-no-refusal : (b : ℕ) (e : Refusal) → refused e ≡ block (Some b) → ⊥
-no-refusal b e q = true≢false (sym (ap accepted q))
-
 no-first : {L B S : Type 0} (bm : Ghosts B L Entry) (sm : Ghosts S StreamLabel Position) (m : Blocks L B S) (v : Ending) (n b : ℕ) (e : Refusal) → out-of (bm .pairs (m .entries) n) ≡ Some b
     → First (checks (limits-of bm sm m) (standing bm sm m) (end-call v (pass n b))) e → ⊥
 no-first bm sm m Commit n b e out (inl f) = f .0 out
@@ -74,18 +71,24 @@ no-first bm sm m Condemn n b e out (inl f) = f .0 out
 no-first bm sm m Condemn n b e out (inr f) = f .1
 
 module _ {L B S : Type 0} (bm : Ghosts B L Entry) (sm : Ghosts S StreamLabel Position) (s m t : Blocks L B S) (v : Ending) (n b : ℕ) where
+  -- what the second of the two calls answers
+  second : (h : History) (a : Answer) → Lived bm sm ((end-call v (pass n b), a) ∷ ((begin n, granted (pass n b)) ∷ h)) t → a ≡ block (Some b)
+  second h a after =
+      let run = after .run in
+      ends-out (limits-of bm sm t) (run .0) (standing bm sm t) v n b a (given-out (limits-of bm sm t) (run .1 .0) (run .0) n b (run .1 .2)) (run .2)
+
+  pub never-refused : (h : History) (e : Refusal) → Lived bm sm ((end-call v (pass n b), refused e) ∷ ((begin n, granted (pass n b)) ∷ h)) t → ⊥
+  never-refused h e after = true≢false (sym (ap accepted (second h (refused e) after)))
+
   pub passed-lives : (h : History) (r : Result ℕ Refusal) → Lived bm sm ((begin n, granted (pass n b)) ∷ h) m → Goes bm sm m (end-call v (pass n b)) (finished r) t → Passed bm sm h v n r t
   passed-lives h r mid goes = go r (goes _ mid)
     where
       go : (r : Result ℕ Refusal) → Lived bm sm ((end-call v (pass n b), finished r) ∷ ((begin n, granted (pass n b)) ∷ h)) t → Passed bm sm h v n r t
       go (Ok x) after =
-          let run = after .run in
-          let q : block (Some x) ≡ block (Some b) = ends-out (limits-of bm sm t) (run .0) (standing bm sm t) v n b (block (Some x)) (given-out (limits-of bm sm t) (run .1 .0) (run .0) n b (run .1 .2)) (run .2) in
+          let q : block (Some x) ≡ block (Some b) = second h (block (Some x)) after in
           let e : b ≡ x = cc in
           subst (λ y. Lived bm sm ((end-call v (pass n y), block (Some x)) ∷ ((begin n, granted (pass n y)) ∷ h)) t) e after
-      go (Err e) after =
-          let run = after .run in
-          absurd (no-refusal b e (ends-out (limits-of bm sm t) (run .0) (standing bm sm t) v n b (refused e) (given-out (limits-of bm sm t) (run .1 .0) (run .0) n b (run .1 .2)) (run .2)))
+      go (Err e) after = absurd (never-refused h e after)
 
   pub passes : (r : Result ℕ Refusal) → Faulty bm sm s (given n (Ok b)) m → Gives bm sm s n (Ok b) m → Ends bm sm m v n b r t → Passes bm sm s v n r t
   passes (Ok x) faulty gives ends =

@@ -14,14 +14,14 @@ use Rattle.std.specs.Vec.{listOf}
 use Rattle.std.specs.Finite.{nth}
 use Rattle.std.proofs.shelf.Lists.{getD-set-same, getD-set-other}
 use Rattle.std.proofs.shelf.Tests.{cases-eq, eq-eqb, ne-eqb, or-cases, or-right, true≢false, cond-true, eqb-true, lt-ltb}
+use Rattle.map.specs.Sets.{Number}
+use Rattle.map.proofs.Sets.{number-more}
 use Rattle.ring.specs.declared.queue.Ring.{Ring}
 use Rattle.ring.specs.Queue.{items, places}
 use Rattle.rules.specs.declared.Entry.{Entry}
 use Rattle.rules.specs.declared.Position.{Position}
-use Rattle.rules.specs.Sets.{Number}
 use Rattle.rules.specs.Calls.{Labels, Standing}
 use Rattle.rules.specs.Rules.{entry, back}
-use Rattle.rules.proofs.Lists.{number-more}
 use Rattle.blocks.specs.declared.pool.Mark.{Mark}
 use Rattle.blocks.specs.declared.pool.Mark.the-variants.{Sound, Condemned}
 use Rattle.blocks.specs.Pool.{Released, marked, is-condemned, lost-in}

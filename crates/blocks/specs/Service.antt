@@ -26,13 +26,13 @@ use Rattle.std.specs.shelf.Maps.{update}
 use Rattle.refusal.specs.declared.Refusal.{Refusal}
 use Rattle.label.specs.declared.stream.StreamLabel.{StreamLabel}
 use Rattle.map.specs.declared.Map.{Ghosts}
+use Rattle.map.specs.Sets.{Number}
 use Rattle.ring.specs.declared.queue.Ring.{Ring}
 use Rattle.ring.specs.Queue.{items, places, Pops}
 use Rattle.rules.specs.declared.Entry.{Entry}
 use Rattle.rules.specs.declared.Entry.the-variants.{Settled}
 use Rattle.rules.specs.declared.Position.{Position}
 use Rattle.rules.specs.declared.Tally.{Tally}
-use Rattle.rules.specs.Sets.{Number}
 use Rattle.rules.specs.Calls.{Limits, Standing, Call, Answer}
 use Rattle.rules.specs.Calls as calls
 use Rattle.rules.specs.Calls.Call.{begin, commit, abandon, condemn, read, trim}

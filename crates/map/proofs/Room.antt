@@ -7,7 +7,7 @@ use Rattle.std.specs.declared.option.Option.{Option}
 use Rattle.std.specs.Options.{isSome}
 use Rattle.std.proofs.shelf.Tests.{cond-false, eqb-true}
 use Rattle.map.specs.Meaning.{held, beside, Lawful}
-use Rattle.map.proofs.Sets.{split}
+use Rattle.map.proofs.Lists.{split}
 
 -- a held label always fits: beside those held it is no new one
 pub held-room : {V : Type 0} (f : ℕ → Option V) (F : (ℕ → Bool) → Type 0) → Lawful f F → (n : ℕ) → held f n ≡ true → F (beside f n)

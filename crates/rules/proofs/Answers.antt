@@ -8,6 +8,7 @@ use Rattle.std.specs.declared.option.Option.{Option}
 use Rattle.std.specs.declared.option.Option.the-variants.{Some, None}
 use Rattle.std.proofs.shelf.Tests.{true≢false}
 use Rattle.refusal.specs.declared.Refusal.{Refusal}
+use Rattle.map.proofs.Sets.{number-one}
 use Rattle.rules.specs.declared.Position.{Position}
 use Rattle.rules.specs.declared.Tally.{Tally}
 use Rattle.rules.specs.Calls.{Grant, Limits, Standing, Call, Answer}
@@ -16,7 +17,6 @@ use Rattle.rules.specs.Calls.Answer.{granted, block, opened, closed, stands, c
 use Rattle.rules.specs.Rules.{Checks, Judges, Step, checks, Accepts, Grants, entry, settled-of, with-entry, with-stream, with-waiting}
 use Rattle.rules.specs.History.{accepted}
 use Rattle.rules.specs.Laws.{First, OneAnswer, RefusedExactly}
-use Rattle.rules.proofs.Lists.{number-one}
 use Rattle.rules.proofs.Places.{some-one}
 
 -- ---- one answer

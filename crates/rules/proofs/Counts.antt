@@ -1,22 +1,20 @@
 -- After every run the blocks of the four places add up to all blocks, so a tally has an answer.
-use Prim.Native.Nat.{ℕ, zero, suc, _+_, _-_, _≤_, _<_}
+use Prim.Native.Nat.{ℕ, _+_, _-_, _<_}
 use mathlib.Core.Path.{_≡_, refl, sym, _∙_, ap, subst}
-use mathlib.Core.Logic.{_⊎_, inl, inr, ⊎-elim, _↔_, _≢_}
+use mathlib.Core.Logic.{_⊎_, inl, inr, ⊎-elim}
 use mathlib.Core.Bool.{Bool, true, false}
-use mathlib.Core.List.{List, [], _∷_, _++_}
 use native.Mathlib.Omega.{arith}
 use lib.ListN.{length}
 use Rattle.std.specs.declared.option.Option.{Option}
 use Rattle.std.specs.declared.option.Option.the-variants.{Some, None}
-use Rattle.std.proofs.shelf.Tests.{cases-eq, cases-bool}
+use Rattle.map.specs.Sets.{Distinct, Number}
+use Rattle.map.proofs.Sets.{number-one, number-map, number-add, number-counted, number-exists}
 use Rattle.rules.specs.declared.Tally.{Tally}
-use Rattle.rules.specs.Sets.{_∈_, Distinct, Number}
 use Rattle.rules.specs.Calls.{Limits, Standing, Call, Answer}
 use Rattle.rules.specs.Calls.Call.{tally}
 use Rattle.rules.specs.Calls.Answer.{counts}
 use Rattle.rules.specs.Rules.{Step, Counted, out-of, settled-of}
 use Rattle.rules.specs.History.{History, Run, Ledger, ledger, grants, endings}
-use Rattle.rules.proofs.Lists.{number-one, number-map, number-more, number-none, number-add, number-counted}
 use Rattle.rules.proofs.Places.{Place, At, Placed, one-place, apart}
 use Rattle.rules.proofs.Places.Place.{waits, out-at, settled-at, retired}
 use Rattle.rules.proofs.Runs.{Good, run-good, out-is, settled-is}
@@ -58,23 +56,6 @@ all-places p d good w o c g nw no′ nc ng =
     up b (out-at n) h = inl (inl (inr (n, h)))
     up b (settled-at n) h = inl (inr (n, h))
     up b retired h = inr h
-
--- ---- how many blocks have a property that each block can be tried for
-
-below : (Q : ℕ → Type 0) (p : ℕ) → ((b : ℕ) → b < p → Q b ⊎ (Q b → ⊥)) → (n : ℕ) × Number (λ b. Q b × (b < p)) n
-below Q zero dec = (0, number-none (λ b. Q b × (b < 0)) (λ b h. let l : b < 0 = h .1 in omega arith))
-below Q (suc p) dec = go (below Q p (λ b l. dec b (omega arith))) (dec p (omega arith))
-  where
-    go : (n : ℕ) × Number (λ b. Q b × (b < p)) n → Q p ⊎ (Q p → ⊥) → (n : ℕ) × Number (λ b. Q b × (b < suc p)) n
-    go (n, num) (inl q) =
-        (1 + n, number-more (λ b. Q b × (b < p)) (λ b. Q b × (b < suc p)) n p (λ h. let l : p < p = h .1 in omega arith) (λ b. (λ h. ⊎-elim inl (λ ne. inr (h .0, let l : b < suc p = h .1 in omega arith)) (cases-eq b p), ⊎-elim (λ e. (subst Q (sym e) q, omega arith)) (λ h. (h .0, let l : b < p = h .1 in omega arith)))) num)
-    go (n, num) (inr no′) =
-        (n, number-map (λ b. Q b × (b < p)) (λ b. Q b × (b < suc p)) n (λ b. (λ h. (h .0, let l : b < p = h .1 in omega arith), λ h. (h .0, ⊎-elim (λ e. absurd (no′ (subst Q e (h .0)))) (λ ne. let l : b < suc p = h .1 in omega arith) (cases-eq b p)))) num)
-
-pub number-exists : (Q : ℕ → Type 0) (p : ℕ) → ((b : ℕ) → Q b → b < p) → ((b : ℕ) → b < p → Q b ⊎ (Q b → ⊥)) → (n : ℕ) × Number Q n
-number-exists Q p small dec =
-    let r = below Q p dec in
-    (r .0, number-map (λ b. Q b × (b < p)) Q (r .0) (λ b. (λ h. h .0, λ q. (q, small b q))) (r .1))
 
 -- every block is settled somewhere or nowhere
 settled-dec : (p : ℕ) (d : Ledger) → Placed p d → (b : ℕ) → b < p → ((n : ℕ) × At d b (settled-at n)) ⊎ (((n : ℕ) × At d b (settled-at n)) → ⊥)

@@ -1,6 +1,6 @@
 -- Every block is in just one place, and a move of one block keeps it so.
 use Prim.Native.Nat.{ℕ, zero, suc, _+_, _≤_, _<_}
-use mathlib.Core.Path.{_≡_, refl, sym, _∙_, ap, subst}
+use mathlib.Core.Path.{_≡_, refl, sym, _∙_, ap}
 use mathlib.Core.Logic.{_⊎_, inl, inr, ⊎-elim, _↔_, _≢_}
 use mathlib.Core.Bool.{Bool, true, false, _||_}
 use mathlib.Core.List.{List, [], _∷_, _++_}
@@ -11,9 +11,9 @@ use Rattle.std.specs.declared.option.Option.the-variants.{Some, None}
 use Rattle.std.specs.shelf.Maps.{update}
 use Rattle.std.proofs.shelf.Maps.{update-here, update-apart}
 use Rattle.std.proofs.shelf.Tests.{cases-eq, or-cases, or-left, or-right, eqb-true, eq-eqb, false≢true}
-use Rattle.rules.specs.Sets.{_∈_, Distinct, Number}
+use Rattle.map.specs.Sets.{_∈_, Distinct}
+use Rattle.map.proofs.Lists.{in-head, in-tail, not-in, skip, skip-last, in-left, in-right, distinct-last, in-counted, distinct-counted}
 use Rattle.rules.specs.History.{Ledger, ledger, tail}
-use Rattle.rules.proofs.Lists.{in-append, in-left, in-right, distinct-append, in-counted, distinct-counted}
 
 -- ---- where a ledger has a block
 
@@ -152,16 +152,6 @@ never x e = some-none x None e refl
 not-it : (x b : ℕ) → x ≢ b → (o : Option ℕ) → o ≡ Some b → o ≡ Some x → ⊥
 not-it x b ne o p q = ne (some-one x b o q p)
 
-skip : (x b : ℕ) (rest : List ℕ) → x ≢ b → x ∈ b ∷ rest → x ∈ rest
-skip x b rest ne h = ⊎-elim (λ e. absurd (ne e)) (λ i. i) h
-
-skip-last : (x b : ℕ) (xs : List ℕ) → x ≢ b → x ∈ xs ++ b ∷ [] → x ∈ xs
-skip-last x b xs ne h = ⊎-elim (λ i. i) (λ i. absurd (⊎-elim ne (λ z. z) i)) (in-append x xs (b ∷ []) h)
-
-distinct-last : (xs : List ℕ) (b : ℕ) → Distinct xs → (b ∈ xs → ⊥) → Distinct (xs ++ b ∷ [])
-distinct-last xs b d new =
-    distinct-append xs (b ∷ []) d (λ z. z, tt) (λ x i j. new (subst (λ y. y ∈ xs) (⊎-elim (λ e. e) (λ z. absurd z) j) i))
-
 module _ (p : ℕ) (d : Ledger) (good : Placed p d) (n b : ℕ) where
   -- the front waiting block goes out at n
   pub goes-out : (rest : List ℕ) → d .waiting ≡ b ∷ rest → d .out n ≡ None → Moves d (sent n b d) b (out-at n)
@@ -174,10 +164,10 @@ module _ (p : ℕ) (d : Ledger) (good : Placed p d) (n b : ℕ) where
       ones = rw w at good .once
 
       waited : At d b waits
-      waited = rw w (inl refl)
+      waited = rw w (in-head b rest)
 
       others : (x : ℕ) → x ≢ b → (r : Place) → At e x r ↔ At d x r
-      others x ne waits = (λ h. rw w (inr (rw w at h)), λ h. rw w (skip x b rest ne (rw w at h)))
+      others x ne waits = (λ h. rw w (in-tail x b rest (rw w at h)), λ h. rw w (skip x b rest ne (rw w at h)))
       others x ne (out-at m) = (
         set-was (d .out) n (Some b) m x (not-it x b ne (Some b) refl),
         set-stays (d .out) n (Some b) m x (λ h. some-none x (d .out n) h free),
@@ -186,7 +176,7 @@ module _ (p : ℕ) (d : Ledger) (good : Placed p d) (n b : ℕ) where
       others x ne retired = (λ h. h, λ h. h)
 
       only : (r : Place) → At e b r → r ≡ out-at n
-      only waits h = absurd (ones .0 (rw w at h))
+      only waits h = absurd (not-in b rest .1 (ones .0) (rw w at h))
       only (out-at m) h =
           ⊎-elim (λ u. ap out-at (u .0)) (λ u. absurd (apart p d good b waits (out-at m) waited (sym (u .1) ∙ h) (omega arith))) (updated (d .out) n (Some b) m)
       only (settled-at m) h = absurd (apart p d good b waits (settled-at m) waited h (omega arith))
@@ -195,7 +185,7 @@ module _ (p : ℕ) (d : Ledger) (good : Placed p d) (n b : ℕ) where
   -- the block settled at n goes to the back of the waiting
   pub goes-back : d .settled n ≡ Some b → Moves d (cleared n b d) b waits
   goes-back was =
-      record { others = others; here = in-right b (d .waiting) (b ∷ []) (inl refl); only = only; once = distinct-last (d .waiting) b (good .once) (λ h. apart p d good b (settled-at n) waits was h (omega arith)) }
+      record { others = others; here = in-right b (d .waiting) (b ∷ []) (in-head b []); only = only; once = distinct-last (d .waiting) b (good .once) (λ h. apart p d good b (settled-at n) waits was h (omega arith)) }
     where
       e : Ledger
       e = cleared n b d
@@ -222,7 +212,7 @@ module _ (p : ℕ) (d : Ledger) (good : Placed p d) (n b : ℕ) where
     -- the block out at n goes to the back of the waiting
     pub comes-back : Moves d (brought-back n b d) b waits
     comes-back =
-        record { others = others; here = in-right b (d .waiting) (b ∷ []) (inl refl); only = only; once = distinct-last (d .waiting) b (good .once) (λ h. apart p d good b (out-at n) waits was h (omega arith)) }
+        record { others = others; here = in-right b (d .waiting) (b ∷ []) (in-head b []); only = only; once = distinct-last (d .waiting) b (good .once) (λ h. apart p d good b (out-at n) waits was h (omega arith)) }
       where
         e : Ledger
         e = brought-back n b d

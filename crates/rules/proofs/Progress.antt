@@ -9,6 +9,7 @@ use lib.ListN.{length}
 use Rattle.std.specs.declared.option.Option.{Option}
 use Rattle.std.specs.declared.option.Option.the-variants.{Some, None}
 use Rattle.std.proofs.shelf.Tests.{cases-eq, cases-lt, cases-bool, false≢true}
+use Rattle.map.proofs.Sets.{number-exists}
 use Rattle.rules.specs.declared.Position.{Position}
 use Rattle.rules.specs.Calls.{Grant, Labels, Limits, Standing, Call, Answer}
 use Rattle.rules.specs.Calls.Call.{begin, append, commit, abandon, condemn, read, trim, openStream, closeStream, position, tally}
@@ -19,7 +20,7 @@ use Rattle.rules.specs.Laws.{Decided, SomeAnswer, Laws}
 use Rattle.rules.proofs.Places.{Placed, never, some-one}
 use Rattle.rules.proofs.Places.Place.{retired}
 use Rattle.rules.proofs.Runs.{Good, run-good, NoneOf}
-use Rattle.rules.proofs.Counts.{number-exists, tally-kept}
+use Rattle.rules.proofs.Counts.{tally-kept}
 use Rattle.rules.proofs.Answers.{step-one, refused-exactly}
 
 abbrev Dec : Type 0 → Type 0

@@ -13,16 +13,17 @@ use Rattle.std.specs.shelf.Maps.{update}
 use Rattle.std.proofs.shelf.Maps.{update-here, update-apart, update-update}
 use Rattle.std.proofs.shelf.Tests.{cases-eq, or-cases, or-left, or-right, eqb-true, eq-eqb}
 use Rattle.refusal.specs.declared.Refusal.{Refusal}
+use Rattle.map.specs.Sets.{Number}
+use Rattle.map.proofs.Lists.{in-head}
+use Rattle.map.proofs.Sets.{number-more, number-less, number-none}
 use Rattle.rules.specs.declared.Entry.{Entry}
 use Rattle.rules.specs.declared.Entry.the-variants.{Settled, Fresh, Change}
 use Rattle.rules.specs.declared.Position.{Position}
-use Rattle.rules.specs.Sets.{_∈_, Distinct, Number}
 use Rattle.rules.specs.Calls.{Grant, Labels, Limits, Standing, Call, Answer}
 use Rattle.rules.specs.Calls.Call.{begin, append, commit, abandon, condemn, read, trim, openStream, closeStream, position, tally}
 use Rattle.rules.specs.Calls.Answer.{granted, block, opened, closed, stands, counts, refused}
 use Rattle.rules.specs.Rules.{Checks, Judges, Step, checks, Accepts, Grants, entry, out-of, settled-of, back, with-entry, with-stream, with-waiting, with-condemned, release, undo, next-of}
 use Rattle.rules.specs.History.{History, Run, fresh, Ledger, ledger, noted, moves, send-out, settle, take-back, retire, clear, head, is-at, given-by, ended-by, grants, endings}
-use Rattle.rules.proofs.Lists.{number-more, number-less, number-none}
 use Rattle.rules.proofs.Places.{Place, At, Placed, Moves, moved, apart, one-place, updated, some-none, some-one, never, set-was, set-stays, sent, brought-back, cleared, thrown, settled-only, goes-out, goes-back, comes-back, is-thrown, is-settled, not-twice, placed-fresh}
 use Rattle.rules.proofs.Places.Place.{waits, out-at, settled-at, retired}
 
@@ -128,7 +129,7 @@ module _ (p : ℕ) (d : Ledger) (s : Standing) (g e : ℕ) (good : Good p d s g 
   give-good n b rest idle w =
       let w′ : d .waiting ≡ b ∷ rest = sym (good .pool) ∙ w in
       let free : d .out n ≡ None = sym (out-is n) ∙ is-none (out-of (s .entries n)) idle in
-      let waited : At d b waits = rw w′ (inl refl) in
+      let waited : At d b waits = rw w′ (in-head b rest) in
       let same : sent n b d ≡ send-out n d = λ i. record {
         waiting = sent n b d .waiting;
         out = update eqb (d .out) n (ap head (sym w′) i);

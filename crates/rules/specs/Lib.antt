@@ -1,4 +1,3 @@
-pub mod Sets
 pub mod Calls
 pub mod Rules
 pub mod History

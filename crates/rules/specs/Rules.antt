@@ -22,8 +22,8 @@ use Rattle.rules.specs.declared.Entry.{Entry}
 use Rattle.rules.specs.declared.Entry.the-variants.{Settled, Fresh, Change}
 use Rattle.rules.specs.declared.Position.{Position}
 use Rattle.rules.specs.declared.Tally.{Tally}
+use Rattle.map.specs.Sets.{_∈_, Number}
 use Rattle.map.specs.Meaning.{beside}
-use Rattle.rules.specs.Sets.{_∈_, Number}
 use Rattle.rules.specs.Calls.{Labels, Limits, Standing, Grant, Call, Answer}
 use Rattle.rules.specs.Calls.Call.{begin, append, commit, abandon, condemn, read, trim, openStream, closeStream, position, tally}
 use Rattle.rules.specs.Calls.Answer.{granted, block, opened, closed, stands, counts, refused}

@@ -11,7 +11,7 @@ use Rattle.std.specs.declared.option.Option.the-variants.{Some, None}
 use Rattle.std.specs.Options.{isSome}
 use Rattle.std.proofs.shelf.Tests.{cond-true, cond-false, eqb-true, eqb-false, eq-eqb, ne-eqb}
 use Rattle.map.specs.Meaning.{changed}
-use Rattle.map.proofs.Sets.{split, clash}
+use Rattle.map.proofs.Lists.{split, clash}
 use Rattle.straight.specs.declared.rows.Row.{Row}
 use Rattle.straight.specs.Rows.{holds, look, spare, apart, replaced, filled, cleared, unused}
 use Rattle.straight.proofs.Lookups.{look-hit, look-miss, holds-used, holds-number, holds-other}

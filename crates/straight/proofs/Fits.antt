@@ -15,8 +15,9 @@ use Rattle.std.proofs.shelf.Tests.{cond-true, cond-false, eqb-true, eqb-false, 
 use Rattle.map.specs.declared.Denied.{Denied}
 use Rattle.map.specs.Sets.{member, Distinct, Counts, AtMost}
 use Rattle.map.specs.Meaning.{held, changed, beside, Put, Lawful}
+use Rattle.map.proofs.Lists.{split, clash, distinct-short}
+use Rattle.map.proofs.Sets.{most-none, most-part}
 use Rattle.map.proofs.Room.{held-room}
-use Rattle.map.proofs.Sets.{split, clash, distinct-short, most-none, most-part}
 use Rattle.straight.specs.declared.rows.Row.{Row}
 use Rattle.straight.specs.Rows.{Shaped, WellKept, holds, look, spare, busy, numbers, apart, replaced, filled, cleared, live, within, emptied, put-rows, put-answer, take-rows, ask-answer}
 use Rattle.straight.proofs.Changes.{some-none, apart-rest, apart-first, look-replaced, apart-replaced, look-filled, apart-filled, filled-none, look-cleared, apart-cleared}

@@ -9,7 +9,7 @@ use lib.ListN.{length, getD, set}
 use Rattle.std.specs.declared.option.Option.the-variants.{Some, None}
 use Rattle.std.specs.Options.{isSome}
 use Rattle.std.proofs.shelf.Tests.{cond-true, cond-false, eqb-true, eqb-false, ne-eqb}
-use Rattle.map.proofs.Sets.{split, clash}
+use Rattle.map.proofs.Lists.{split, clash}
 use Rattle.straight.specs.declared.rows.Row.{Row}
 use Rattle.straight.specs.Rows.{holds, look, place, spare, replaced, filled, cleared, unused}
 

@@ -1,0 +1,2 @@
+-- The grant that a host holds.
+pub mod Held

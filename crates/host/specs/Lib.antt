@@ -1,0 +1,2 @@
+-- What a host's write promises.
+pub mod Program
