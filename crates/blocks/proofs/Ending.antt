@@ -26,13 +26,13 @@ use Rattle.rules.specs.Calls.Answer.{block}
 use Rattle.rules.specs.Rules.{Step, out-of, settled-of, back}
 use Rattle.rules.specs.History.{History, Run, given-by, ended-by}
 use Rattle.rules.proofs.Places.{some-none}
-use Rattle.blocks.specs.declared.entry.Ending.{Ending}
-use Rattle.blocks.specs.declared.entry.Ending.the-variants.{Commit, Abandon, Condemn}
-use Rattle.blocks.specs.declared.entry.Turn.{Turn}
+use Rattle.entry.specs.declared.Ending.{Ending}
+use Rattle.entry.specs.declared.Ending.the-variants.{Commit, Abandon, Condemn}
+use Rattle.entry.specs.declared.Turn.{Turn}
 use Rattle.blocks.specs.declared.pool.Mark.{Mark}
 use Rattle.blocks.specs.declared.pool.Marks.{Marks}
 use Rattle.blocks.specs.declared.state.Blocks.{Blocks}
-use Rattle.blocks.specs.Turns.{Turns, event-of}
+use Rattle.entry.specs.Turns.{Turns, event-of}
 use Rattle.blocks.specs.Pool.{Released, marked, lost-in, more, condemned-with}
 use Rattle.blocks.specs.Stores.{Stores}
 use Rattle.blocks.specs.Service.{limits-of, standing, Lived, Leaves, Ends, Trims, end-call, entry-after, freed, lost, pass}

@@ -13,7 +13,7 @@ use Rattle.ring.specs.Queue.{places}
 use Rattle.rules.specs.declared.Entry.{Entry}
 use Rattle.rules.specs.declared.Position.{Position}
 use Rattle.rules.specs.Calls.{Call}
-use Rattle.blocks.specs.declared.entry.Ending.{Ending}
+use Rattle.entry.specs.declared.Ending.{Ending}
 use Rattle.blocks.specs.declared.pool.Mark.{Mark}
 use Rattle.blocks.specs.declared.state.Blocks.{Blocks}
 use Rattle.blocks.specs.Service.{Fixed, Leaves, Unchanged, Refuses, Gives, Ends, Reads, Trims, Passes}

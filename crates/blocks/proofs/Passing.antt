@@ -25,8 +25,8 @@ use Rattle.rules.specs.History.{History, accepted}
 use Rattle.rules.proofs.Places.{some-one}
 use Rattle.rules.proofs.Runs.{judged, out-entry}
 use Rattle.rules.specs.Laws.{First}
-use Rattle.blocks.specs.declared.entry.Ending.{Ending}
-use Rattle.blocks.specs.declared.entry.Ending.the-variants.{Commit, Abandon, Condemn}
+use Rattle.entry.specs.declared.Ending.{Ending}
+use Rattle.entry.specs.declared.Ending.the-variants.{Commit, Abandon, Condemn}
 use Rattle.blocks.specs.declared.state.Blocks.{Blocks}
 use Rattle.blocks.specs.Service.{limits-of, standing, Lived, Goes, Faulty, Passed, Passes, Refuses, Gives, Ends, given, finished, end-call, pass}
 

@@ -27,10 +27,10 @@ use Rattle.rules.specs.Calls.Answer.{block, counts}
 use Rattle.rules.specs.Rules.{Step, out-of, settled-of, back}
 use Rattle.rules.specs.History.{History, Run}
 use Rattle.rules.proofs.Counts.{tally-kept, tally-of}
-use Rattle.blocks.specs.declared.entry.Event.the-variants.{Trim}
-use Rattle.blocks.specs.declared.entry.Turn.{Turn}
+use Rattle.entry.specs.declared.Event.the-variants.{Trim}
+use Rattle.entry.specs.declared.Turn.{Turn}
 use Rattle.blocks.specs.declared.state.Blocks.{Blocks}
-use Rattle.blocks.specs.Turns.{Turns}
+use Rattle.entry.specs.Turns.{Turns}
 use Rattle.blocks.specs.Pool.{Released, lost-in}
 use Rattle.blocks.specs.Stores.{Stores}
 use Rattle.blocks.specs.Service.{limits-of, standing, Lived, Leaves, Unchanged, Trims}

@@ -1,4 +1,3 @@
-pub mod Turns
 pub mod Pool
 pub mod Stores
 pub mod Service

@@ -41,8 +41,8 @@ use Rattle.rules.specs.Rules.{entry, settled-of, checks}
 use Rattle.rules.specs.History.{History, Run, grants, endings}
 use Rattle.rules.specs.Laws.{First}
 use Rattle.blocks.specs.declared.grant.Grant.{Grant}
-use Rattle.blocks.specs.declared.entry.Ending.{Ending}
-use Rattle.blocks.specs.declared.entry.Ending.the-variants.{Commit, Abandon, Condemn}
+use Rattle.entry.specs.declared.Ending.{Ending}
+use Rattle.entry.specs.declared.Ending.the-variants.{Commit, Abandon, Condemn}
 use Rattle.blocks.specs.declared.pool.Mark.{Mark}
 use Rattle.blocks.specs.declared.state.Blocks.{Blocks}
 use Rattle.blocks.specs.Pool.{Released, marked, lost-in, more, condemned-with}

@@ -2,7 +2,7 @@
 ghost use mathlib.Core.Path.{_≡_};
 ghost use lib.ListN.{length, replicate};
 ghost use denote.Ref.{name};
-ghost use Prim.Native.Nat.{_≤_};
+ghost use Prim.Native.Nat.{_+_, _-_, _≤_};
 ghost use Rattle.std.specs.Iters.{counting};
 ghost use Rattle.blocks.specs.Pool.{Released, marked, condemned-with};
 use ring::Ring;
@@ -73,4 +73,13 @@ pub(crate) fn count_lost(condemned: usize, lost: Option<u32>) -> usize
         Some(_) => condemned.saturating_add(1),
         None => condemned,
     }
+}
+
+// How many of all blocks are in none of three places.
+pub(crate) fn others(all: usize, waiting: usize, out: usize, condemned: usize) -> usize
+    ensures { λ r. ⌜ r ≡ all - (waiting + out + condemned) ⌝ }
+{
+    all.saturating_sub(waiting)
+        .saturating_sub(out)
+        .saturating_sub(condemned)
 }

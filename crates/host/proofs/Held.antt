@@ -11,7 +11,7 @@ use Rattle.rules.specs.declared.Position.{Position}
 use Rattle.rules.specs.Calls.Call.{begin}
 use Rattle.rules.specs.Calls.Answer.{granted, refused}
 use Rattle.rules.specs.History.{History}
-use Rattle.blocks.specs.declared.entry.Ending.{Ending}
+use Rattle.entry.specs.declared.Ending.{Ending}
 use Rattle.blocks.specs.declared.grant.Grant.{Grant}
 use Rattle.blocks.specs.declared.state.Blocks.{Blocks}
 use Rattle.blocks.specs.Service.{Lived, Goes, Passed, end-call, pass, plain, finished}

@@ -18,8 +18,8 @@ use Rattle.rules.specs.declared.Position.{Position}
 use Rattle.rules.specs.Calls.Call.{begin}
 use Rattle.rules.specs.Calls.Answer.{refused}
 use Rattle.rules.specs.History.{History}
-use Rattle.blocks.specs.declared.entry.Ending.{Ending}
-use Rattle.blocks.specs.declared.entry.Ending.the-variants.{Commit, Condemn}
+use Rattle.entry.specs.declared.Ending.{Ending}
+use Rattle.entry.specs.declared.Ending.the-variants.{Commit, Condemn}
 use Rattle.blocks.specs.declared.grant.Grant.{Grant}
 use Rattle.blocks.specs.declared.state.Blocks.{Blocks}
 use Rattle.blocks.specs.Service.{Lived, Passed}

@@ -37,12 +37,10 @@ pub fn program<'a, L: BlockNumber, B: Map<L, Entry>, S: Map<StreamLabel, Positio
     ensures { λ r. ⌜ ((h : History) → Lived B·Map S·Map h (now (service .entry)) → Programs B·Map S·Map h n took r (now (service .exit))) ⌝ }
 {
     match service.begin(n) {
-        Ok(grant) => {
-            match settle(service, grant, took) {
-                Ok(block) => Ok(block),
-                Err((refusal, grant)) => Err((refusal, Some(grant))),
-            }
-        }
+        Ok(grant) => match settle(service, grant, took) {
+            Ok(block) => Ok(block),
+            Err((refusal, grant)) => Err((refusal, Some(grant))),
+        },
         Err(refusal) => Err((refusal, None)),
     }
 }

@@ -18,8 +18,8 @@ use Rattle.rules.specs.declared.Tally.{Tally}
 use Rattle.rules.specs.Calls.{Answer}
 use Rattle.rules.specs.Calls.Answer.{refused}
 use Rattle.rules.specs.History.{History, accepted}
-use Rattle.blocks.specs.declared.entry.Ending.{Ending}
-use Rattle.blocks.specs.declared.entry.Ending.the-variants.{Commit, Abandon, Condemn}
+use Rattle.entry.specs.declared.Ending.{Ending}
+use Rattle.entry.specs.declared.Ending.the-variants.{Commit, Abandon, Condemn}
 use Rattle.blocks.specs.declared.state.Blocks.{Blocks}
 use Rattle.blocks.specs.Service as service
 use Rattle.blocks.proofs.Fixed.{fixed-none, fixed-more, reads-fixed, trims-fixed, passes-fixed}

@@ -17,8 +17,8 @@ use Rattle.rules.specs.declared.Entry.{Entry}
 use Rattle.rules.specs.declared.Position.{Position}
 use Rattle.rules.specs.declared.Tally.{Tally}
 use Rattle.rules.specs.Calls.Call.{read, trim, tally}
-use Rattle.blocks.specs.declared.entry.Ending.{Ending}
-use Rattle.blocks.specs.declared.entry.Ending.the-variants.{Commit, Abandon, Condemn}
+use Rattle.entry.specs.declared.Ending.{Ending}
+use Rattle.entry.specs.declared.Ending.the-variants.{Commit, Abandon, Condemn}
 use Rattle.blocks.specs.declared.state.Blocks.{Blocks}
 use Rattle.blocks.specs.Service.{Goes, Through, Faulty, Passes, Reads, Trims, finished, found, tallied}
 use Rattle.tape.specs.declared.calls.Call.{Call}

@@ -23,8 +23,8 @@ use Rattle.rules.specs.Calls as calls
 use Rattle.rules.specs.Calls.Call.{begin, read, trim, tally}
 use Rattle.rules.specs.Calls.Answer.{granted, block, refused}
 use Rattle.rules.specs.History.{History}
-use Rattle.blocks.specs.declared.entry.Ending.{Ending}
-use Rattle.blocks.specs.declared.entry.Ending.the-variants.{Commit, Abandon, Condemn}
+use Rattle.entry.specs.declared.Ending.{Ending}
+use Rattle.entry.specs.declared.Ending.the-variants.{Commit, Abandon, Condemn}
 use Rattle.blocks.specs.declared.state.Blocks.{Blocks}
 use Rattle.blocks.specs.Service.{Lived, Fixed, found, tallied, end-call, pass}
 use Rattle.tape.specs.declared.calls.Call.{Call}

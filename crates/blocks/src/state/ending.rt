@@ -1,12 +1,12 @@
 // The calls that end a grant, and the trim of a settled block.
 ghost use Rattle.blocks.specs.Service.{Goes, Faulty, Ends, Finishes, Back, end-call, finished, ended, pass, plain};
-ghost use Rattle.blocks.specs.declared.entry.Ending.the-variants.{Commit, Abandon, Condemn};
+ghost use Rattle.entry.specs.declared.Ending.the-variants.{Commit, Abandon, Condemn};
 use super::Blocks;
 use super::granting::store;
-use crate::entry::Ending;
-use crate::entry::advance;
 use crate::grant::Grant;
 use crate::pool;
+use entry::Ending;
+use entry::advance;
 use label::BlockNumber;
 use label::StreamLabel;
 use label::StreamLabelLabel;

@@ -4,10 +4,10 @@ ghost use Rattle.rules.specs.Calls.Call.{read as reading, trim as trimming, tal
 ghost use Rattle.blocks.specs.Service.{Goes, Faulty, Reads, Trims, found, tallied};
 use super::Blocks;
 use super::granting::store;
-use crate::entry::Event;
-use crate::entry::advance;
-use crate::entry::settled_block;
 use crate::pool;
+use entry::Event;
+use entry::advance;
+use entry::settled_block;
 use label::BlockNumber;
 use label::StreamLabel;
 use label::StreamLabelLabel;
@@ -65,11 +65,7 @@ impl<'a, L: BlockNumber, B: Map<L, Entry>, S: Map<StreamLabel, Position>> Blocks
             return Err(e);
         }
         let waiting = self.pool.len();
-        let settled = self.pool
-            .capacity()
-            .saturating_sub(waiting)
-            .saturating_sub(self.out)
-            .saturating_sub(self.condemned);
+        let settled = pool::others(self.pool.capacity(), waiting, self.out, self.condemned);
         Ok(Tally {
             waiting,
             out: self.out,

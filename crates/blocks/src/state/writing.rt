@@ -1,8 +1,8 @@
 // A begin and its ending in one call, for callers that need no grant in between.
 ghost use Rattle.blocks.specs.Service.{Faulty, Through, Passes, finished};
-ghost use Rattle.blocks.specs.declared.entry.Ending.the-variants.{Commit, Abandon, Condemn};
+ghost use Rattle.entry.specs.declared.Ending.the-variants.{Commit, Abandon, Condemn};
 use super::Blocks;
-use crate::entry::Ending;
+use entry::Ending;
 use label::BlockNumber;
 use label::StreamLabel;
 use label::StreamLabelLabel;

@@ -3,7 +3,7 @@ use mathlib.Core.Path.{_≡_, sym, ap, subst, _∙_}
 use borrow.Author.Needs.{needs}
 use Rattle.std.specs.declared.option.Option.the-variants.{Some}
 use Rattle.rules.specs.Rules.{out-of}
-use Rattle.blocks.specs.Turns.{Turns}
+use Rattle.entry.specs.Turns.{Turns}
 use Rattle.blocks.proofs.Giving.{old-is}
 use Rattle.blocks.proofs.Ending.{ended-turn, left-ended, ended-lives}
 use Rattle.blocks.proofs.state.Blocks.end.Needs as need

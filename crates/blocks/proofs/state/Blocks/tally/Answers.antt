@@ -14,7 +14,7 @@ pub returns : need.returns
 returns g c =
     let s = c .args .self .now in
     let waits : c .len-waiting .result ≡ length (items (s .pool)) = c .len-waiting .ensures .count in
-    let rest : c .saturating-sub-settled .result ≡ places (s .pool) - (length (items (s .pool)) + s .out + s .condemned) = omega arith in
+    let rest : c .others-settled .result ≡ places (s .pool) - (length (items (s .pool)) + s .out + s .condemned) = omega arith in
     record {
       step = λ h lived.
           tallied-lives (g .B·Map) (g .S·Map) h s s lived _

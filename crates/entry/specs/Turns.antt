@@ -10,11 +10,11 @@ use Rattle.std.specs.declared.option.Option.the-variants.{Some, None}
 use Rattle.rules.specs.declared.Entry.{Entry}
 use Rattle.rules.specs.declared.Entry.the-variants.{Settled}
 use Rattle.rules.specs.Rules.{out-of, settled-of, entry}
-use Rattle.blocks.specs.declared.entry.Event.{Event}
-use Rattle.blocks.specs.declared.entry.Event.the-variants.{Begin, Commit, Abandon, Condemn, Trim}
-use Rattle.blocks.specs.declared.entry.Ending.{Ending}
-use Rattle.blocks.specs.declared.entry.Ending.the-variants as ending
-use Rattle.blocks.specs.declared.entry.Turn.{Turn}
+use Rattle.entry.specs.declared.Event.{Event}
+use Rattle.entry.specs.declared.Event.the-variants.{Begin, Commit, Abandon, Condemn, Trim}
+use Rattle.entry.specs.declared.Ending.{Ending}
+use Rattle.entry.specs.declared.Ending.the-variants as ending
+use Rattle.entry.specs.declared.Turn.{Turn}
 
 abbrev pub event-of : Ending → ℕ → Event
 event-of ending.Commit b = Commit b

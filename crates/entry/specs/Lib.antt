@@ -1,0 +1,2 @@
+-- What the contracts of the entry cite.
+pub mod Turns
