@@ -1,3 +1,4 @@
+-- Each turn numbers one cell more.
 use mathlib.Core.Path.{_≡_, sym, _∙_}
 use mathlib.Core.Logic.{_≢_}
 use native.Mathlib.Omega.{arith}

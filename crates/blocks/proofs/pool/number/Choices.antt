@@ -1,3 +1,4 @@
+-- The cells passed hold their own numbers.
 use Prim.Native.Nat.{ℕ, _<_}
 use mathlib.Core.Path.{_≡_}
 use lib.ListN.{getD}
