@@ -1,4 +1,5 @@
 // The card of the returns bench: eight blocks of the old line, every block number but the last, four streams.
+ghost use mathlib.Core.Path.{_≡_};
 ghost use Rattle.std.specs.Of.Vec.{vec-items};
 ghost use Rattle.std.specs.Vec.{made};
 ghost use Rattle.bench_card.specs.Card.{Listed};
@@ -24,6 +25,13 @@ const BLOCKS: usize = 8;
 
 const STREAMS: usize = 4;
 
+// The bound of the block numbers: every number of 32 bits but the largest.
+fn bound() -> u32
+    ensures { λ r. ⌜ r ≡ 4294967295 ⌝ }
+{
+    u32::MAX
+}
+
 // Plays the tape on a fresh card. Until the bucket table is there, the largest straight map holds the entries.
 pub fn list_tape(tape: &[u8], heap: Global) -> Result<Vec<Line>, AllocError>
     ensures { λ r. ⌜ made r (λ v. Listed (now (tape .entry)) (vec-items v)) ⌝ }
@@ -46,6 +54,6 @@ pub fn list_tape(tape: &[u8], heap: Global) -> Result<Vec<Line>, AllocError>
     }; STREAMS];
     let entries = StraightMap::new(&mut entry_rows);
     let streams = StraightMap::new(&mut stream_rows);
-    let mut service = Blocks::new(u32::MAX, &mut cells, &mut marks, entries, streams);
+    let mut service = Blocks::new(bound(), &mut cells, &mut marks, entries, streams);
     play(&mut service, tape, heap)
 }

@@ -35,7 +35,7 @@ use Rattle.blocks.specs.declared.state.Blocks.{Blocks}
 use Rattle.entry.specs.Turns.{Turns, event-of}
 use Rattle.blocks.specs.Pool.{Released, marked, lost-in, more, condemned-with}
 use Rattle.blocks.specs.Stores.{Stores}
-use Rattle.blocks.specs.Service.{limits-of, standing, Lived, Leaves, Ends, Trims, end-call, entry-after, freed, lost, pass}
+use Rattle.blocks.specs.Service.{limits-of, standing, Lived, GrantEnded, end-call, entry-after, freed, lost, pass}
 use Rattle.blocks.proofs.Words.{at, released-items, released-places, marked-length, lost-set, lost-more}
 use Rattle.blocks.proofs.Lives.{lives, ends-once, waits-below, condemned-below, out-block, not-condemned}
 use Rattle.blocks.proofs.Giving.{old-is, stored}
@@ -74,15 +74,16 @@ module _ {L B S : Type 0} (bm : Ghosts B L Entry) (sm : Ghosts S StreamLabel Pos
   stores-held b e false m₂ here st =
       absurd (some-none b (out-of old) here (ap out-of (found .answer ∙ (λ i. sym (found .after) i l) ∙ st .answer .1)))
 
-  pub left-ended : (k : Ending) (b : ℕ) (turn : Turn) (r : Bool) (m₂ : B) (q : Ring ℕ) (marks : Marks) (o g : ℕ)
+  pub grant-ended : (k : Ending) (b : ℕ) (turn : Turn) (r : Bool) (m₂ : B) (q : Ring ℕ) (marks : Marks) (o g : ℕ)
       → Turns old (event-of k b) (Some turn) → Stores bm m₁ l (turn .entry) r m₂ → Released (s .pool) (turn .back) q
       → marks .cells .now ≡ marked (turn .lost) (s .marks .cells .now) → name (marks .cells) ≡ name (s .marks .cells)
-      → o ≡ s .out - 1 → g ≡ condemned-with (turn .lost) (s .condemned) → Ends bm sm s k n b (Ok b) (after s m₂ q marks o g)
-  left-ended k b turn r m₂ q marks o g turns st rel em ea eo eg =
+      → o ≡ s .out - 1 → g ≡ condemned-with (turn .lost) (s .condemned) → GrantEnded bm sm s k n b (after s m₂ q marks o g)
+  grant-ended k b turn r m₂ q marks o g turns st rel em ea eo eg =
       let facts = ended-turn k old b turn turns in
-      let held = stores-held b (turn .entry) r m₂ (facts .0) st in (
-        refl,
-        record {
+      let held = stores-held b (turn .entry) r m₂ (facts .0) st in
+      record {
+        out = ap out-of (sym before) ∙ facts .0;
+        left = record {
           kept = held .kept;
           fit = held .fit ∙ found .fit;
           pairs = stored bm sm s n l is m₁ old found m₂ (turn .entry) held ∙ ap (update eqb (bm .pairs (s .entries)) n) (facts .1 ∙ ap (λ e. entry-after k (settled-of e) b) before);
@@ -94,8 +95,8 @@ module _ {L B S : Type 0} (bm : Ghosts B L Entry) (sm : Ghosts S StreamLabel Pos
           condemned = eg ∙ ap (λ x. condemned-with x (s .condemned)) (facts .3);
           limit = refl;
           fault = refl;
-        },
-      )
+        };
+      }
     where
       before : old ≡ bm .pairs (s .entries) n
       before = old-is bm sm s n l is m₁ old found
@@ -120,15 +121,15 @@ module _ {L B S : Type 0} (bm : Ghosts B L Entry) (sm : Ghosts S StreamLabel Pos
       (rw (lived .marks) (out-block (limits-of bm sm s) h (standing bm sm s) (lived .run) n b out))
       (not-condemned (limits-of bm sm s) h (standing bm sm s) (lived .run) n b out) (lived .condemned))
 
-  pub ended-lives : (v : Ending) (n b : ℕ) → Ends bm sm s v n b (Ok b) t → out-of (bm .pairs (s .entries) n) ≡ Some b
+  pub ended-lives : (v : Ending) (n b : ℕ) → GrantEnded bm sm s v n b t
       → Lived bm sm ((end-call v (pass n b), block (Some b)) ∷ h) t
-  ended-lives v n b left out =
+  ended-lives v n b ends =
       lives bm sm h s t (end-call v (pass n b)) lived (block (Some b)) (update eqb (bm .pairs (s .entries)) n (entry-after v (settled-of (bm .pairs (s .entries) n)) b))
-      (Released (s .pool) (freed v (settled-of (bm .pairs (s .entries) n)) b)) (marked (lost v b) (s .marks .cells .now)) (s .out - 1) (condemned-with (lost v b) (s .condemned)) (left .1)
-      waiting (released-items (s .pool) (t .pool) (freed v (settled-of (bm .pairs (s .entries) n)) b) (left .1 .pool) (waits-below (limits-of bm sm s) ((end-call v (pass n b), block (Some b)) ∷ h) ideal run))
-      (released-places (s .pool) (t .pool) (freed v (settled-of (bm .pairs (s .entries) n)) b) (left .1 .pool))
+      (Released (s .pool) (freed v (settled-of (bm .pairs (s .entries) n)) b)) (marked (lost v b) (s .marks .cells .now)) (s .out - 1) (condemned-with (lost v b) (s .condemned)) (ends .left)
+      waiting (released-items (s .pool) (t .pool) (freed v (settled-of (bm .pairs (s .entries) n)) b) (ends .left .pool) (waits-below (limits-of bm sm s) ((end-call v (pass n b), block (Some b)) ∷ h) ideal run))
+      (released-places (s .pool) (t .pool) (freed v (settled-of (bm .pairs (s .entries) n)) b) (ends .left .pool))
       step (omega (arith, lived .out, one-ended v n b .0, one-ended v n b .1, ends-once (limits-of bm sm s) ((end-call v (pass n b), block (Some b)) ∷ h) ideal run))
-      (marked-length (lost v b) (s .marks .cells .now)) (counted-lost v n b out)
+      (marked-length (lost v b) (s .marks .cells .now)) (counted-lost v n b (ends .out))
     where
       waiting : List ℕ
       waiting = items (s .pool) ++ back (freed v (settled-of (bm .pairs (s .entries) n)) b)
@@ -137,7 +138,7 @@ module _ {L B S : Type 0} (bm : Ghosts B L Entry) (sm : Ghosts S StreamLabel Pos
       ideal = at waiting (update eqb (bm .pairs (s .entries)) n (entry-after v (settled-of (bm .pairs (s .entries) n)) b)) (sm .pairs (s .streams)) (lost-in (marked (lost v b) (s .marks .cells .now)))
 
       step : Step (limits-of bm sm s) (standing bm sm s) (end-call v (pass n b)) (block (Some b)) ideal
-      step = ended-step (limits-of bm sm s) (items (s .pool)) (bm .pairs (s .entries)) (sm .pairs (s .streams)) (s .marks .cells .now) n b out (rw (lived .marks) (out-block (limits-of bm sm s) h (standing bm sm s) (lived .run) n b out)) v
+      step = ended-step (limits-of bm sm s) (items (s .pool)) (bm .pairs (s .entries)) (sm .pairs (s .streams)) (s .marks .cells .now) n b (ends .out) (rw (lived .marks) (out-block (limits-of bm sm s) h (standing bm sm s) (lived .run) n b (ends .out))) v
 
       run : Run (limits-of bm sm s) ((end-call v (pass n b), block (Some b)) ∷ h) ideal
       run = (standing bm sm s, lived .run, step)

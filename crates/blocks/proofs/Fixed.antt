@@ -34,19 +34,19 @@ module _ {L B S : Type 0} (bm : Ghosts B L Entry) (sm : Ghosts S StreamLabel Pos
     unchanged-fixed left = left-fixed _ _ _ _ _ left (ap places (left .pool))
 
     pub gives-fixed : (n : ℕ) (r : Result ℕ Refusal) → Gives bm sm s n r t → Fixed bm sm s t
-    gives-fixed n (Ok b) left = left-fixed _ _ _ _ _ left (left .pool .places)
+    gives-fixed n (Ok b) sent = left-fixed _ _ _ _ _ (sent .left) (sent .left .pool .places)
     gives-fixed n (Err e) no′ = unchanged-fixed (no′ .same)
 
     pub ends-fixed : (k : Ending) (n b : ℕ) (r : Result ℕ Refusal) → Ends bm sm s k n b r t → Fixed bm sm s t
-    ends-fixed k n b (Ok x) left = left-fixed _ _ _ _ _ (left .1) (released-places (s .pool) (t .pool) _ (left .1 .pool))
+    ends-fixed k n b (Ok x) (e, ends) = left-fixed _ _ _ _ _ (ends .left) (released-places (s .pool) (t .pool) _ (ends .left .pool))
     ends-fixed k n b (Err e) no′ = unchanged-fixed (no′ .same)
 
     pub reads-fixed : (n : ℕ) (r : Result (Option ℕ) Refusal) → Reads bm sm s n r t → Fixed bm sm s t
-    reads-fixed n (Ok o) left = unchanged-fixed (left .1)
+    reads-fixed n (Ok o) left = unchanged-fixed (left .2)
     reads-fixed n (Err e) no′ = unchanged-fixed (no′ .same)
 
     pub trims-fixed : (n : ℕ) (r : Result (Option ℕ) Refusal) → Trims bm sm s n r t → Fixed bm sm s t
-    trims-fixed n (Ok o) left = left-fixed _ _ _ _ _ (left .1) (released-places (s .pool) (t .pool) o (left .1 .pool))
+    trims-fixed n (Ok o) did = left-fixed _ _ _ _ _ (did .left) (released-places (s .pool) (t .pool) o (did .left .pool))
     trims-fixed n (Err e) no′ = unchanged-fixed (no′ .same)
 
   pub passes-fixed : (s t : Blocks L B S) (k : Ending) (n : ℕ) (r : Result ℕ Refusal) → Passes bm sm s k n r t → Fixed bm sm s t

@@ -26,7 +26,7 @@ use Rattle.rules.specs.History.{History}
 use Rattle.blocks.specs.declared.state.Blocks.{Blocks}
 use Rattle.blocks.specs.Pool.{lost-in, more}
 use Rattle.blocks.specs.Stores.{Stores}
-use Rattle.blocks.specs.Service.{limits-of, standing, Lived, Leaves, Unchanged, Refuses, Gives, pass}
+use Rattle.blocks.specs.Service.{limits-of, standing, Lived, Leaves, Unchanged, Refuses, SentOut, pass}
 use Rattle.blocks.proofs.Words.{at, front-none, not-empty, some-entry}
 use Rattle.blocks.proofs.Lives.{lives, outs-below}
 use Rattle.std.specs.declared.result.Result.the-variants.{Ok}
@@ -89,20 +89,25 @@ module _ {L B S : Type 0} (bm : Ghosts B L Entry) (sm : Ghosts S StreamLabel Pos
       same = left-full m₂ e st;
     }
 
-  pub left-given : (m₂ : B) (e : Option Entry) (b u o : ℕ) (q : Ring ℕ) (x : Option ℕ) → u ≡ b → e ≡ entry (settled-of old) (Some u) → Stores bm m₁ l e true m₂
-      → Some b ≡ nth (items (s .pool)) 0 → Pops (s .pool) x q → o ≡ more (s .out) → Gives bm sm s n (Ok b) (over s m₂ q o)
-  left-given m₂ e b u o q x eu ee st front pops eo = record {
-    kept = st .kept;
-    fit = st .fit ∙ found .fit;
-    pairs = stored m₂ e st ∙ ap (update eqb (bm .pairs (s .entries)) n) to-entry;
-    streams = refl;
-    pool = subst (λ y. Pops (s .pool) y q) (pops .answer ∙ sym front) pops;
-    marks = refl;
-    area = refl;
-    out = eo;
-    condemned = refl;
-    limit = refl;
-    fault = refl;
+  pub sent-out : (m₂ : B) (e : Option Entry) (b u o : ℕ) (q : Ring ℕ) (x : Option ℕ) → n < s .limit → out-of old ≡ None → u ≡ b → e ≡ entry (settled-of old) (Some u) → Stores bm m₁ l e true m₂
+      → Some b ≡ nth (items (s .pool)) 0 → Pops (s .pool) x q → o ≡ more (s .out) → SentOut bm sm s n b (over s m₂ q o)
+  sent-out m₂ e b u o q x small free eu ee st front pops eo = record {
+    small = small;
+    free = ap out-of (sym old-is) ∙ free;
+    fits = fits m₂ e (ap isSome ee ∙ some-entry (settled-of old) u) st;
+    left = record {
+      kept = st .kept;
+      fit = st .fit ∙ found .fit;
+      pairs = stored m₂ e st ∙ ap (update eqb (bm .pairs (s .entries)) n) to-entry;
+      streams = refl;
+      pool = subst (λ y. Pops (s .pool) y q) (pops .answer ∙ sym front) pops;
+      marks = refl;
+      area = refl;
+      out = eo;
+      condemned = refl;
+      limit = refl;
+      fault = refl;
+    };
   }
     where
       to-entry : e ≡ entry (settled-of (bm .pairs (s .entries) n)) (Some b)
@@ -119,12 +124,11 @@ module _ (k : Limits) (w : List ℕ) (f : ℕ → Option Entry) (x : ℕ → Opt
 
 -- the granted call, from what it leaves
 module _ {L B S : Type 0} (bm : Ghosts B L Entry) (sm : Ghosts S StreamLabel Position) (h : History) (s t : Blocks L B S) (lived : Lived bm sm h s) (n b : ℕ) where
-  pub given-lives : Gives bm sm s n (Ok b) t → n < s .limit → out-of (bm .pairs (s .entries) n) ≡ None → bm .fits (bm .shape (s .entries)) (beside (bm .pairs (s .entries)) n)
-      → Lived bm sm ((begin n, granted (pass n b)) ∷ h) t
-  given-lives left small free fits =
+  pub given-lives : SentOut bm sm s n b t → Lived bm sm ((begin n, granted (pass n b)) ∷ h) t
+  given-lives sent =
       lives bm sm h s t (begin n) lived (granted (pass n b)) (update eqb (bm .pairs (s .entries)) n (entry (settled-of (bm .pairs (s .entries) n)) (Some b)))
-      (Pops (s .pool) (Some b)) (s .marks .cells .now) (more (s .out)) (s .condemned) left
-      (items (t .pool)) refl (left .pool .places)
-      (grants-it (limits-of bm sm s) (items (s .pool)) (bm .pairs (s .entries)) (sm .pairs (s .streams)) (lost-in (s .marks .cells .now)) n small free b (items (t .pool)) (left .pool .items) fits)
+      (Pops (s .pool) (Some b)) (s .marks .cells .now) (more (s .out)) (s .condemned) (sent .left)
+      (items (t .pool)) refl (sent .left .pool .places)
+      (grants-it (limits-of bm sm s) (items (s .pool)) (bm .pairs (s .entries)) (sm .pairs (s .streams)) (lost-in (s .marks .cells .now)) n (sent .small) (sent .free) b (items (t .pool)) (sent .left .pool .items) (sent .fits))
       (omega (arith, lived .out, lived .small, outs-below (limits-of bm sm s) h (standing bm sm s) (lived .run) (s .out) (lived .out)))
       refl (lived .condemned)

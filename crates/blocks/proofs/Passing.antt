@@ -95,8 +95,8 @@ module _ {L B S : Type 0} (bm : Ghosts B L Entry) (sm : Ghosts S StreamLabel Pos
       (m, subst (λ y. Gives bm sm s n (Ok y) m) (sym (ends .0)) gives, subst (λ y. Ends bm sm m v n y (Ok x) t) (sym (ends .0)) ends)
   passes (Err e) faulty gives no′ =
       absurd (⊎-elim
-      (λ f. true≢false (ap accepted (faulty e (sym (gives .fault) ∙ f) .0)))
-      (no-first bm sm m v n b e (ap (λ g. out-of (g n)) (gives .pairs) ∙ ap out-of (update-here (bm .pairs (s .entries)) n _) ∙ out-entry (settled-of (bm .pairs (s .entries) n)) (Some b)))
+      (λ f. true≢false (ap accepted (faulty e (sym (gives .left .fault) ∙ f) .0)))
+      (no-first bm sm m v n b e (ap (λ g. out-of (g n)) (gives .left .pairs) ∙ ap out-of (update-here (bm .pairs (s .entries)) n _) ∙ out-entry (settled-of (bm .pairs (s .entries) n)) (Some b)))
       (no′ .reason))
 
   pub no-fault : (r : Result ℕ Refusal) → Faulty bm sm s (given n (Ok b)) m → Faulty bm sm s (finished r) t

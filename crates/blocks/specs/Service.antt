@@ -10,7 +10,7 @@
 --   Refuses s c e t  the call c is refused with e, for which there is a reason, and nothing changes
 --   Begins, Finishes, Reads, Trims, Passes   what each call leaves, by its answer
 -- Assumes nothing.
-use Prim.Native.Nat.{ℕ, _+_, _-_, _≤_}
+use Prim.Native.Nat.{ℕ, _+_, _-_, _≤_, _<_}
 use mathlib.Core.Path.{_≡_}
 use mathlib.Core.Logic.{_⊎_}
 use mathlib.Core.Bool.{Bool, true, false}
@@ -26,6 +26,7 @@ use Rattle.std.specs.shelf.Maps.{update}
 use Rattle.refusal.specs.declared.Refusal.{Refusal}
 use Rattle.label.specs.declared.stream.StreamLabel.{StreamLabel}
 use Rattle.map.specs.declared.Map.{Ghosts}
+use Rattle.map.specs.Meaning.{beside}
 use Rattle.map.specs.Sets.{Number}
 use Rattle.ring.specs.declared.queue.Ring.{Ring}
 use Rattle.ring.specs.Queue.{items, places, Pops}
@@ -37,7 +38,7 @@ use Rattle.rules.specs.Calls.{Limits, Standing, Call, Answer}
 use Rattle.rules.specs.Calls as calls
 use Rattle.rules.specs.Calls.Call.{begin, commit, abandon, condemn, read, trim}
 use Rattle.rules.specs.Calls.Answer.{granted, block, counts, refused}
-use Rattle.rules.specs.Rules.{entry, settled-of, checks}
+use Rattle.rules.specs.Rules.{entry, settled-of, out-of, checks}
 use Rattle.rules.specs.History.{History, Run, grants, endings}
 use Rattle.rules.specs.Laws.{First}
 use Rattle.blocks.specs.declared.grant.Grant.{Grant}
@@ -184,10 +185,15 @@ module _ {L B S : Type 0} (bm : Ghosts B L Entry) (sm : Ghosts S StreamLabel Pos
     pub reason : (s .fault ≡ Some e) ⊎ First (checks (limits-of bm sm s) (standing bm sm s) c) e
     pub same : Unchanged t
 
-  -- a block given for the number n
+  -- the block b sent out at the number n, which is allowed, not busy, and fits
+  pub record SentOut (n b : ℕ) (t : Blocks L B S) : Type 0 where
+    pub small : n < s .limit
+    pub free : out-of (pairs-of n) ≡ None
+    pub fits : bm .fits (bm .shape (s .entries)) (beside pairs-of n)
+    pub left : Leaves (update eqb pairs-of n (entry (settled-of (pairs-of n)) (Some b))) (Pops (s .pool) (Some b)) (s .marks .cells .now) (more (s .out)) (s .condemned) t
+
   abbrev pub Gives : ℕ → Result ℕ Refusal → Blocks L B S → Type 0
-  Gives n (Ok b) t =
-      Leaves (update eqb pairs-of n (entry (settled-of (pairs-of n)) (Some b))) (Pops (s .pool) (Some b)) (s .marks .cells .now) (more (s .out)) (s .condemned) t
+  Gives n (Ok b) t = SentOut n b t
   Gives n (Err e) t = Refuses (begin n) e t
 
   -- the block given on a grant, which is not spent yet
@@ -195,10 +201,13 @@ module _ {L B S : Type 0} (bm : Ghosts B L Entry) (sm : Ghosts S StreamLabel Pos
   Begins n (Ok g) t = (g .number ≡ n) × (g .spent ≡ false) × Gives n (Ok (g .block)) t
   Begins n (Err e) t = Refuses (begin n) e t
 
-  -- the grant of the block b for the number n ended by k
+  -- the grant of the block b for the number n, which is out, ended by k
+  pub record GrantEnded (k : Ending) (n b : ℕ) (t : Blocks L B S) : Type 0 where
+    pub out : out-of (pairs-of n) ≡ Some b
+    pub left : Leaves (update eqb pairs-of n (entry-after k (settled-of (pairs-of n)) b)) (Released (s .pool) (freed k (settled-of (pairs-of n)) b)) (marked (lost k b) (s .marks .cells .now)) (s .out - 1) (condemned-with (lost k b) (s .condemned)) t
+
   abbrev pub Ends : Ending → ℕ → ℕ → Result ℕ Refusal → Blocks L B S → Type 0
-  Ends k n b (Ok r) t =
-      (r ≡ b) × Leaves (update eqb pairs-of n (entry-after k (settled-of (pairs-of n)) b)) (Released (s .pool) (freed k (settled-of (pairs-of n)) b)) (marked (lost k b) (s .marks .cells .now)) (s .out - 1) (condemned-with (lost k b) (s .condemned)) t
+  Ends k n b (Ok r) t = (r ≡ b) × GrantEnded k n b t
   Ends k n b (Err e) t = Refuses (end-call k (pass n b)) e t
 
   -- the grant handed over to the ending k
@@ -208,12 +217,18 @@ module _ {L B S : Type 0} (bm : Ghosts B L Entry) (sm : Ghosts S StreamLabel Pos
 
   -- the settled block of the number n told; a read changes nothing
   abbrev pub Reads : ℕ → Result (Option ℕ) Refusal → Blocks L B S → Type 0
-  Reads n (Ok o) t = (o ≡ settled-of (pairs-of n)) × Unchanged t
+  Reads n (Ok o) t = (n < s .limit) × (o ≡ settled-of (pairs-of n)) × Unchanged t
   Reads n (Err e) t = Refuses (read n) e t
 
-  -- the settled block of the number n removed
+  -- the settled block of the number n, which is allowed and not busy, removed
+  pub record Trimmed (n : ℕ) (o : Option ℕ) (t : Blocks L B S) : Type 0 where
+    pub small : n < s .limit
+    pub free : out-of (pairs-of n) ≡ None
+    pub answer : o ≡ settled-of (pairs-of n)
+    pub left : Leaves (update eqb pairs-of n None) (Released (s .pool) o) (s .marks .cells .now) (s .out) (s .condemned) t
+
   abbrev pub Trims : ℕ → Result (Option ℕ) Refusal → Blocks L B S → Type 0
-  Trims n (Ok o) t = (o ≡ settled-of (pairs-of n)) × Leaves (update eqb pairs-of n None) (Released (s .pool) o) (s .marks .cells .now) (s .out) (s .condemned) t
+  Trims n (Ok o) t = Trimmed n o t
   Trims n (Err e) t = Refuses (trim n) e t
 
 -- a begin for the number n and its ending k in one: what the two leave, one after the other

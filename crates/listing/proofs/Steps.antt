@@ -36,7 +36,7 @@ use Rattle.listing.specs.declared.lines.Line.{Line}
 use Rattle.listing.specs.declared.lines.Outcome.{Outcome}
 use Rattle.listing.specs.declared.lines.Outcome.the-variants.{Fault}
 use Rattle.listing.specs.Lines.{ended-outcome, found-outcome, tally-outcome, Obeys, Passed}
-use Rattle.listing.specs.Plays.{passed, Passing, Tells, Plays, nothing, call, fault, fault-of, faulted, Came, Adds, PlaysOn, Played}
+use Rattle.listing.specs.Plays.{events-of, Passing, Tells, Plays, nothing, call, fault, fault-of, faulted, Came, Adds, PlaysOn, Played}
 
 -- ---- one call
 
@@ -65,8 +65,8 @@ module _ {L B S : Type 0} (bm : Ghosts B L Entry) (sm : Ghosts S StreamLabel Pos
   passing h k n o p lived = go (p .answer) (p .outcome) (p .step h lived) (passes-fixed bm sm s t k n (p .answer) (p .leaves (lived .blocks-kept)))
     where
       go : (r : Result ℕ Refusal) → o ≡ ended-outcome r → service.Passed bm sm h k n r t → Fixed bm sm s t → (new : History) × Passing k n o new × Lived bm sm (new ++ h) t × Fixed bm sm s t
-      go (Ok b) e after fixed = (passed k n (Ok b), (Ok b, e, refl), after, fixed)
-      go (Err x) e after fixed = (passed k n (Err x), (Err x, e, refl), after, fixed)
+      go (Ok b) e after fixed = (events-of k n (Ok b), (Ok b, e, refl), after, fixed)
+      go (Err x) e after fixed = (events-of k n (Err x), (Err x, e, refl), after, fixed)
 
   tells : (h : History) (c : Call) (o : Outcome) → Obeys bm sm s c o t → Lived bm sm h s → (new : History) × Tells c o new × Lived bm sm (new ++ h) t × Fixed bm sm s t
   tells h (Write n) o p lived = passing h Commit n o p lived

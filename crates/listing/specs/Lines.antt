@@ -16,6 +16,7 @@ use Rattle.map.specs.declared.Map.{Ghosts}
 use Rattle.rules.specs.declared.Entry.{Entry}
 use Rattle.rules.specs.declared.Position.{Position}
 use Rattle.rules.specs.declared.Tally.{Tally}
+use Rattle.rules.specs.Calls as calls
 use Rattle.rules.specs.Calls.Call.{read, trim, tally}
 use Rattle.entry.specs.declared.Ending.{Ending}
 use Rattle.entry.specs.declared.Ending.the-variants.{Commit, Abandon, Condemn}
@@ -48,21 +49,16 @@ module _ {L B S : Type 0} (bm : Ghosts B L Entry) (sm : Ghosts S StreamLabel Pos
     pub leaves : bm .kept (s .entries) → Passes bm sm s k n answer t
     pub faulty : Faulty bm sm s (finished answer) t
 
-  pub record WasRead (n : ℕ) (o : Outcome) (t : Blocks L B S) : Type 0 where
+  -- a read or a trim, whose own relation is Left
+  pub record LookedUp (c : calls.Call) (Left : Result (Option ℕ) Refusal → Blocks L B S → Type 0) (o : Outcome) (t : Blocks L B S) : Type 0 where
     pub answer : Result (Option ℕ) Refusal
     pub outcome : o ≡ found-outcome answer
-    pub step : Goes bm sm s (read n) (found answer) t
-    pub leaves : bm .kept (s .entries) → Reads bm sm s n answer t
+    pub step : Goes bm sm s c (found answer) t
+    pub leaves : bm .kept (s .entries) → Left answer t
     pub faulty : Faulty bm sm s (found answer) t
 
-  pub record WasTrimmed (n : ℕ) (o : Outcome) (t : Blocks L B S) : Type 0 where
-    pub answer : Result (Option ℕ) Refusal
-    pub outcome : o ≡ found-outcome answer
-    pub step : Goes bm sm s (trim n) (found answer) t
-    pub leaves : bm .kept (s .entries) → Trims bm sm s n answer t
-    pub faulty : Faulty bm sm s (found answer) t
-
-  pub record WasTallied (o : Outcome) (t : Blocks L B S) : Type 0 where
+  -- a tally
+  pub record Counted (o : Outcome) (t : Blocks L B S) : Type 0 where
     pub answer : Result Tally Refusal
     pub outcome : o ≡ tally-outcome answer
     pub step : Goes bm sm s tally (tallied answer) t
@@ -73,6 +69,6 @@ module _ {L B S : Type 0} (bm : Ghosts B L Entry) (sm : Ghosts S StreamLabel Pos
   Obeys (Write n) o t = Passed Commit n o t
   Obeys (Drop n) o t = Passed Abandon n o t
   Obeys (Spoil n) o t = Passed Condemn n o t
-  Obeys (Read n) o t = WasRead n o t
-  Obeys (Trim n) o t = WasTrimmed n o t
-  Obeys CallTally o t = WasTallied o t
+  Obeys (Read n) o t = LookedUp (read n) (Reads bm sm s n) o t
+  Obeys (Trim n) o t = LookedUp (trim n) (Trims bm sm s n) o t
+  Obeys CallTally o t = Counted o t

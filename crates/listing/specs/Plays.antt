@@ -39,12 +39,12 @@ use Rattle.listing.specs.Lines.{ended-outcome, found-outcome, tally-outcome, O
 -- ---- one call
 
 -- a begin for n, and its ending k where it was granted
-abbrev pub passed : Ending → ℕ → Result ℕ Refusal → History
-passed k n (Ok b) = (end-call k (pass n b), block (Some b)) ∷ ((begin n, granted (pass n b)) ∷ [])
-passed k n (Err e) = (begin n, refused e) ∷ []
+abbrev pub events-of : Ending → ℕ → Result ℕ Refusal → History
+events-of k n (Ok b) = (end-call k (pass n b), block (Some b)) ∷ ((begin n, granted (pass n b)) ∷ [])
+events-of k n (Err e) = (begin n, refused e) ∷ []
 
 abbrev pub Passing : Ending → ℕ → Outcome → History → Type 0
-Passing k n o new = (r : Result ℕ Refusal) × (o ≡ ended-outcome r) × (new ≡ passed k n r)
+Passing k n o new = (r : Result ℕ Refusal) × (o ≡ ended-outcome r) × (new ≡ events-of k n r)
 
 abbrev pub Finding : calls.Call → Outcome → History → Type 0
 Finding c o new = (r : Result (Option ℕ) Refusal) × (o ≡ found-outcome r) × (new ≡ ((c, found r) ∷ []))

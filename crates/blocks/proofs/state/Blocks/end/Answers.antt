@@ -1,11 +1,9 @@
 -- The ending of a grant that is out.
-use mathlib.Core.Path.{_≡_, sym, ap, subst, _∙_}
+use mathlib.Core.Path.{refl, subst}
 use borrow.Author.Needs.{needs}
 use Rattle.std.specs.declared.option.Option.the-variants.{Some}
-use Rattle.rules.specs.Rules.{out-of}
 use Rattle.entry.specs.Turns.{Turns}
-use Rattle.blocks.proofs.Giving.{old-is}
-use Rattle.blocks.proofs.Ending.{ended-turn, left-ended, ended-lives}
+use Rattle.blocks.proofs.Ending.{grant-ended, ended-lives}
 use Rattle.blocks.proofs.state.Blocks.end.Needs as need
 
 pub returns : need.returns
@@ -20,10 +18,9 @@ returns g c =
       step = λ h lived.
           let seen = c .find-entry .ensures (lived .blocks-kept) in
           ended-lives bm sm h s _ lived (c .args .ending) n b
-          (left-ended bm sm s n _ (c .of-label .ensures) _ _ seen (c .args .ending) b (c .in-Some-advance .turn) _ _ _ _ _ _ turns (c .store .ensures (seen .kept)) (c .release .ensures) (c .condemn .ensures .cells) (c .condemn .ensures .area) (c .saturating-sub-self .ensures) (c .count-lost-self .ensures))
-          (ap out-of (sym (old-is bm sm s n _ (c .of-label .ensures) _ _ seen)) ∙ ended-turn (c .args .ending) (c .find-entry .result) b (c .in-Some-advance .turn) turns .0);
+          (grant-ended bm sm s n _ (c .of-label .ensures) _ _ seen (c .args .ending) b (c .in-Some-advance .turn) _ _ _ _ _ _ turns (c .store .ensures (seen .kept)) (c .release .ensures) (c .condemn .ensures .cells) (c .condemn .ensures .area) (c .saturating-sub-self .ensures) (c .count-lost-self .ensures));
       leaves = λ kept.
           let seen = c .find-entry .ensures kept in
-          left-ended bm sm s n _ (c .of-label .ensures) _ _ seen (c .args .ending) b (c .in-Some-advance .turn) _ _ _ _ _ _ turns (c .store .ensures (seen .kept)) (c .release .ensures) (c .condemn .ensures .cells) (c .condemn .ensures .area) (c .saturating-sub-self .ensures) (c .count-lost-self .ensures);
+          (refl, grant-ended bm sm s n _ (c .of-label .ensures) _ _ seen (c .args .ending) b (c .in-Some-advance .turn) _ _ _ _ _ _ turns (c .store .ensures (seen .kept)) (c .release .ensures) (c .condemn .ensures .cells) (c .condemn .ensures .area) (c .saturating-sub-self .ensures) (c .count-lost-self .ensures));
       faulty = search needs;
     }

@@ -1,13 +1,10 @@
 -- The refusals behind the find, and the grant.
-use mathlib.Core.Path.{_≡_, sym, ap, _∙_}
+use mathlib.Core.Path.{_≡_}
 use borrow.Author.Needs.{needs}
-use Rattle.std.specs.Options.{isSome}
 use Rattle.refusal.specs.declared.Refusal.the-variants.{NoBlockWaiting, BlockMapFull}
 use Rattle.rules.specs.Calls.Call.{begin}
-use Rattle.rules.specs.Rules.{out-of, settled-of}
-use Rattle.blocks.proofs.Words.{some-entry}
 use Rattle.blocks.proofs.Lives.{refused-lives}
-use Rattle.blocks.proofs.Giving.{old-is, fits, left-given, no-block-waiting, map-full, given-lives}
+use Rattle.blocks.proofs.Giving.{sent-out, no-block-waiting, map-full, given-lives}
 use Rattle.blocks.proofs.state.Blocks.give.Needs as need
 
 pub returns-in-rest-front : need.returns-in-rest-front
@@ -46,18 +43,17 @@ returns g c =
     let s = c .args .self .now in
     let bm = g .B·Map in
     let sm = g .S·Map in
+    let n = c .args .n in
+    let b = c .in-Some-front .b in
+    let turns = c .in-Some-advance .ensures tt in
     let front-is : c .unwrap-or .result ≡ c .in-Some-front .b = search needs in
     record {
       step = λ h lived.
           let seen = c .find-entry .ensures (lived .blocks-kept) in
-          let st = c .if-not-store .ensures tt (seen .kept) in
-          let old = old-is bm sm s (c .args .n) _ (c .of-label .ensures) _ _ seen in
-          given-lives bm sm h s _ lived (c .args .n) (c .in-Some-front .b)
-          (left-given bm sm s (c .args .n) _ (c .of-label .ensures) _ _ seen _ _ (c .in-Some-front .b) (c .unwrap-or .result) _ _ _ front-is (c .in-Some-advance .ensures tt .1) st (c .in-Some-front .ensures tt) (c .pop-front .ensures) (c .saturating-add-self .ensures))
-          (c .if-n-self .left) (ap out-of (sym old) ∙ c .in-Some-advance .ensures tt .0)
-          (fits bm sm s (c .args .n) _ (c .of-label .ensures) _ _ seen _ _ (ap isSome (c .in-Some-advance .ensures tt .1) ∙ some-entry (settled-of (c .find-entry .result)) (c .unwrap-or .result)) st);
+          given-lives bm sm h s _ lived n b
+          (sent-out bm sm s n _ (c .of-label .ensures) _ _ seen _ _ b (c .unwrap-or .result) _ _ _ (c .if-n-self .left) (turns .0) front-is (turns .1) (c .if-not-store .ensures tt (seen .kept)) (c .in-Some-front .ensures tt) (c .pop-front .ensures) (c .saturating-add-self .ensures));
       leaves = λ kept.
           let seen = c .find-entry .ensures kept in
-          left-given bm sm s (c .args .n) _ (c .of-label .ensures) _ _ seen _ _ (c .in-Some-front .b) (c .unwrap-or .result) _ _ _ front-is (c .in-Some-advance .ensures tt .1) (c .if-not-store .ensures tt (seen .kept)) (c .in-Some-front .ensures tt) (c .pop-front .ensures) (c .saturating-add-self .ensures);
+          sent-out bm sm s n _ (c .of-label .ensures) _ _ seen _ _ b (c .unwrap-or .result) _ _ _ (c .if-n-self .left) (turns .0) front-is (turns .1) (c .if-not-store .ensures tt (seen .kept)) (c .in-Some-front .ensures tt) (c .pop-front .ensures) (c .saturating-add-self .ensures);
       faulty = search needs;
     }

@@ -11,6 +11,6 @@ returns-in-Ok g c =
       step = λ h lived. passed-lives (g .B·Map) (g .S·Map) s m (c .end .last .self) (c .args .ending) (c .args .n) b h (c .end .result) (c .in-Ok .ensures tt .step h lived) (c .end .ensures .step);
       leaves = λ kept.
           let gives = c .in-Ok .ensures tt .leaves kept in
-          passes (g .B·Map) (g .S·Map) s m (c .end .last .self) (c .args .ending) (c .args .n) b (c .end .result) (c .in-Ok .ensures tt .faulty) gives (c .end .ensures .leaves (gives .kept));
+          passes (g .B·Map) (g .S·Map) s m (c .end .last .self) (c .args .ending) (c .args .n) b (c .end .result) (c .in-Ok .ensures tt .faulty) gives (c .end .ensures .leaves (gives .left .kept));
       faulty = no-fault (g .B·Map) (g .S·Map) s m (c .end .last .self) (c .args .ending) (c .args .n) b (c .end .result) (c .in-Ok .ensures tt .faulty);
     }
