@@ -1,0 +1,2 @@
+-- What the examples' helpers rest on.
+pub mod Keeping
