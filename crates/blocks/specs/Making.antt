@@ -64,13 +64,14 @@ module _ {L B S : Type 0} (bm : Ghosts B L Entry) (sm : Ghosts S StreamLabel Pos
   -- the lent cells and marks, the bound n and the two maps make the service r
   pub record Makes (cells : RefT (List ℕ)) (marks : RefT (List Mark)) (n : ℕ) (b : B) (t : S) (r : Blocks L B S) : Type 0 where
     pub fresh : Sizes (length (now cells)) (length (now marks)) n → BothEmpty b t → Lived bm sm [] r
-    pub bad-size : (Sizes (length (now cells)) (length (now marks)) n → ⊥) → r .fault ≡ Some BadSize
     pub not-empty : Sizes (length (now cells)) (length (now marks)) n → (BothEmpty b t → ⊥) → r .fault ≡ Some MapNotEmpty
     pub entries : Looked bm b (r .entries)
     pub streams : Looked sm t (r .streams)
 
--- the areas of a service just made: numbered and cleared, or left as they were
+-- the sizes and areas of a service just made: numbered and cleared, or left as they were
 pub record Areas {L B S : Type 0} (cells : RefT (List ℕ)) (marks : RefT (List Mark)) (n : ℕ) (r : Blocks L B S) : Type 0 where
+  pub bad-size : (Sizes (length (now cells)) (length (now marks)) n → ⊥) → r .fault ≡ Some BadSize
+  pub sized : r .fault ≡ Some BadSize → Sizes (length (now cells)) (length (now marks)) n → ⊥
   pub limit : r .limit ≡ n
   pub places : places (r .pool) ≡ length (now cells)
   pub pool-area : name (r .pool .cells) ≡ name cells

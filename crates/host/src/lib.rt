@@ -1,4 +1,7 @@
 // A host that programs blocks: it holds the grant while the flash is being written.
+ghost use mathlib.Core.Path.{_≡_};
+ghost use Rattle.std.specs.declared.option.Option.the-variants.{Some, None};
+ghost use Rattle.std.specs.declared.result.Result.the-variants.{Err};
 ghost use Rattle.blocks.specs.Service.{Lived, Goes, Back, end-call, plain, ended};
 ghost use Rattle.rules.specs.History.{History};
 ghost use Rattle.host.specs.Program.{Programs, ending-of};
@@ -34,7 +37,8 @@ pub fn program<'a, L: BlockNumber, B: Map<L, Entry>, S: Map<StreamLabel, Positio
     n: u32,
     took: bool,
 ) -> Result<u32, (Refusal, Option<Grant>)>
-    ensures { λ r. ⌜ ((h : History) → Lived B·Map S·Map h (now (service .entry)) → Programs B·Map S·Map h n took r (now (service .exit))) ⌝ }
+    ensures step { λ r. ⌜ ((h : History) → Lived B·Map S·Map h (now (service .entry)) → Programs B·Map S·Map h n took r (now (service .exit))) ⌝ }
+    ensures faulty { λ r. ⌜ ((e : Refusal) → now (service .entry) .fault ≡ Some e → (r ≡ Err (e, None)) × (now (service .exit) ≡ now (service .entry))) ⌝ }
 {
     match service.begin(n) {
         Ok(grant) => match settle(service, grant, took) {

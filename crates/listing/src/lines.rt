@@ -1,4 +1,6 @@
 // The lines of a listing, as values and as text.
+ghost use Rattle.std.specs.declared.option.Option.the-variants.{Some};
+ghost use Rattle.listing.specs.Text.{line-text};
 use refusal::Refusal;
 use rules::Tally;
 use std::fmt;
@@ -22,6 +24,8 @@ pub struct Line {
 }
 
 pub impl Display for Line as LineDisplay {
+    ghost shown = { λ l. Some (line-text l) };
+
     fn fmt<W: fmt::Write>(&self, f: &mut Formatter<W>) -> fmt::Result {
         let place = self.place;
         match self.outcome {

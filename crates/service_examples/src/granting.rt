@@ -5,8 +5,8 @@ use crate::card::BLANK;
 use crate::card::Change;
 use crate::card::runs;
 use crate::card::runs_out;
-use entry::Ending;
 use blocks::pool::Mark;
+use entry::Ending;
 use std::test::*;
 
 #[test]
