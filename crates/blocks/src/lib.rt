@@ -1,4 +1,9 @@
 // The blocks of a card: the pool of blank blocks, the entries of the block numbers, and the grants between them.
-pub mod grant;
-pub mod pool;
-pub mod state;
+mod grant;
+mod pool;
+mod state;
+
+pub use grant::Grant;
+pub use pool::Mark;
+pub use state::Blocks;
+pub use state::check;

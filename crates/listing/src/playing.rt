@@ -9,7 +9,7 @@ ghost use Rattle.listing.specs.Lines.{Obeys, ended-outcome, found-outcome, tal
 ghost use Rattle.listing.specs.Plays.{Adds, PlaysOn, Played};
 use crate::lines::Line;
 use crate::lines::Outcome;
-use blocks::state::Blocks;
+use blocks::Blocks;
 use label::BlockNumber;
 use label::StreamLabel;
 use label::StreamLabelLabel;

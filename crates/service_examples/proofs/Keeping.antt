@@ -27,7 +27,7 @@ use Rattle.entry.specs.declared.Ending.the-variants.{Commit, Abandon, Condemn}
 use Rattle.blocks.specs.declared.state.Blocks.{Blocks}
 use Rattle.blocks.specs.Service.{Lived, Fixed, Goes, Faulty, Passed, Through, Passes, Begins, Ends, Finishes, limits-of, standing, end-call, pass, finished, begun, ended, plain}
 use Rattle.blocks.specs.declared.grant.Grant.{Grant as Pass}
-use Rattle.blocks.specs.Making.{Sized, Checks, Makes}
+use Rattle.blocks.specs.Making.{Sized, Checks, Makes, Areas}
 use Rattle.blocks.proofs.Fixed.{fixed-none, fixed-more, gives-fixed, ends-fixed, reads-fixed, trims-fixed, passes-fixed}
 use Rattle.blocks.proofs.Passing.{given-out, ends-out}
 use denote.Ref.{RefT, now}
@@ -228,9 +228,9 @@ module _ {L B S : Type 0} (bm : Ghosts B L Entry) (sm : Ghosts S StreamLabel Pos
   }
 
   pub made-ready : (cells : RefT (List ℕ)) (marks : RefT (List Mark)) (n : ℕ) (b b′ : B) (t t′ : S) (v : Result (Unit {0}) Refusal) (r : Blocks L B S)
-      → Sized (length (now cells)) (length (now marks)) n v → Checks bm sm b t v b′ t′ → Makes bm sm cells marks n b′ t′ r → Ready bm sm r
-  made-ready cells marks n b b′ t t′ (Ok u) r sizes checked makes =
+      → Sized (length (now cells)) (length (now marks)) n v → Checks bm sm b t v b′ t′ → Makes bm sm cells marks n b′ t′ r → Areas cells marks n r → Ready bm sm r
+  made-ready cells marks n b b′ t t′ (Ok u) r sizes checked makes areas =
       inr ([], makes .fresh sizes ((λ k. (λ i. checked .entries .pairs i k) ∙ checked .verdict .0 k), (λ k. (λ i. checked .streams .pairs i k) ∙ checked .verdict .1 k)))
-  made-ready cells marks n b b′ t t′ (Err e) r (inl (q, bad)) checked makes = inl (_, makes .bad-size bad)
-  made-ready cells marks n b b′ t t′ (Err e) r (inr (q, good)) checked makes =
+  made-ready cells marks n b b′ t t′ (Err e) r (inl (q, bad)) checked makes areas = inl (_, areas .bad-size bad)
+  made-ready cells marks n b b′ t t′ (Err e) r (inr (q, good)) checked makes areas =
       inl (_, makes .not-empty good (λ both. checked .verdict q ((λ k. (λ i. sym (checked .entries .pairs) i k) ∙ both .0 k), (λ k. (λ i. sym (checked .streams .pairs) i k) ∙ both .1 k))))

@@ -1,10 +1,10 @@
 // Services that are asked rows of calls, with a grant in hand or without. No grant is let go: each helper ends its own.
 ghost use Rattle.blocks.specs.Service.{Goes, Faulty, Finishes, Back, end-call, ended, plain};
 ghost use Rattle.service_examples.specs.Holding.{Ready, Keeps};
-use blocks::grant::Grant;
-use blocks::pool::Mark;
-use blocks::state::Blocks;
-use blocks::state::check as check_sizes;
+use blocks::Blocks;
+use blocks::Grant;
+use blocks::Mark;
+use blocks::check as check_sizes;
 use entry::Ending;
 use label::BlockNumber;
 use label::OldBlock;

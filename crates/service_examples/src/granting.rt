@@ -5,7 +5,7 @@ use crate::card::BLANK;
 use crate::card::Change;
 use crate::card::runs;
 use crate::card::runs_out;
-use blocks::pool::Mark;
+use blocks::Mark;
 use entry::Ending;
 use std::test::*;
 

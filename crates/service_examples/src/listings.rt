@@ -2,8 +2,8 @@
 use crate::card::BLANK;
 use crate::card::QUIET;
 use bench_card::list_tape;
-use blocks::pool::Mark;
-use blocks::state::Blocks;
+use blocks::Blocks;
+use blocks::Mark;
 use label::OldBlock;
 use label::OldBlockLabel;
 use label::OldBlockNumber;

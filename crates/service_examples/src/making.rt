@@ -5,7 +5,7 @@ use crate::card::QUIET;
 use crate::card::foreign_each;
 use crate::card::make;
 use crate::card::refuses;
-use blocks::pool::Mark;
+use blocks::Mark;
 use label::OldBlock;
 use label::OldBlockLabel;
 use label::OldBlockNumber;

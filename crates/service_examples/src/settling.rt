@@ -3,7 +3,7 @@ use crate::card::Answer;
 use crate::card::Ask;
 use crate::card::BLANK;
 use crate::card::runs;
-use blocks::pool::Mark;
+use blocks::Mark;
 use std::test::*;
 
 #[test]

@@ -17,6 +17,9 @@ use rules::Entry;
 use rules::Position;
 use std::marker::PhantomData;
 
+// The most blocks of a card.
+const MOST_BLOCKS: usize = 4096;
+
 // Whether a service may be made: each cell stands for a block, each block has a mark, `limit` bounds the numbers.
 pub fn check<L: BlockNumber, B: Map<L, Entry>, S: Map<StreamLabel, Position>>(
     limit: u32,
@@ -29,7 +32,7 @@ pub fn check<L: BlockNumber, B: Map<L, Entry>, S: Map<StreamLabel, Position>>(
     ensures maps { λ r. ⌜ (B·Map .kept (now (entries .entry)) → S·Map .kept (now (streams .entry)) → Checks B·Map S·Map (now (entries .entry)) (now (streams .entry)) r (now (entries .exit)) (now (streams .exit))) ⌝ }
 {
     let p = cells.len();
-    if p == 0 || p > 4096 || marks.len() != p || limit == 0 {
+    if p == 0 || p > MOST_BLOCKS || marks.len() != p || limit == 0 {
         return Err(Refusal::BadSize);
     }
     let held = entries.count();
