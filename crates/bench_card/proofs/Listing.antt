@@ -4,7 +4,6 @@ use mathlib.Core.Path.{_≡_, _∙_, subst}
 use mathlib.Core.List.{List, [], append-nil}
 use Rattle.label.specs.declared.stream.StreamLabel.{StreamLabel}
 use Rattle.map.specs.declared.Map.{Ghosts}
-use Rattle.map.specs.Sets.{AtMost}
 use Rattle.rules.specs.declared.Entry.{Entry}
 use Rattle.rules.specs.declared.Position.{Position}
 use Rattle.rules.specs.Calls.{limits}

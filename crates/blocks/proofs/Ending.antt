@@ -1,27 +1,25 @@
 -- A grant that ends, and a settled block that is trimmed, go by the rules.
-use Prim.Native.Nat.{ℕ, _+_, _-_, _≤_, _<_}
+use Prim.Native.Nat.{ℕ, _+_, _-_, _<_}
 use mathlib.Core.Path.{_≡_, refl, sym, _∙_, ap, subst, fun-ext}
-use mathlib.Core.Logic.{inl, inr}
+use mathlib.Core.Logic.{inr}
 use mathlib.Core.Bool.{Bool, true, false}
-use mathlib.Core.List.{List, [], _∷_, _++_, append-nil}
+use mathlib.Core.List.{List, _∷_, _++_, append-nil}
 use native.Mathlib.Omega.{arith}
 use lib.Dec.{eqb}
 use lib.ListN.{length}
 use denote.Ref.{name}
 use Rattle.std.specs.declared.option.Option.{Option}
-use Rattle.std.specs.declared.option.Option.the-variants.{Some, None}
-use Rattle.std.specs.declared.result.Result.the-variants.{Ok}
+use Rattle.std.specs.declared.option.Option.the-variants.{Some}
 use Rattle.std.specs.shelf.Maps.{update}
 use Rattle.label.specs.declared.stream.StreamLabel.{StreamLabel}
 use Rattle.map.specs.declared.Map.{Ghosts}
 use Rattle.map.specs.Sets.{Number}
 use Rattle.map.specs.Meaning.{Finds}
 use Rattle.ring.specs.declared.queue.Ring.{Ring}
-use Rattle.ring.specs.Queue.{items, places}
+use Rattle.ring.specs.Queue.{items}
 use Rattle.rules.specs.declared.Entry.{Entry}
 use Rattle.rules.specs.declared.Position.{Position}
-use Rattle.rules.specs.Calls.{Limits, Standing, Call, Answer}
-use Rattle.rules.specs.Calls.Call.{trim}
+use Rattle.rules.specs.Calls.{Limits, Standing}
 use Rattle.rules.specs.Calls.Answer.{block}
 use Rattle.rules.specs.Rules.{Step, out-of, settled-of, back}
 use Rattle.rules.specs.History.{History, Run, given-by, ended-by}

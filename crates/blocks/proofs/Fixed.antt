@@ -12,11 +12,10 @@ use Rattle.ring.specs.declared.queue.Ring.{Ring}
 use Rattle.ring.specs.Queue.{places}
 use Rattle.rules.specs.declared.Entry.{Entry}
 use Rattle.rules.specs.declared.Position.{Position}
-use Rattle.rules.specs.Calls.{Call}
 use Rattle.entry.specs.declared.Ending.{Ending}
 use Rattle.blocks.specs.declared.pool.Mark.{Mark}
 use Rattle.blocks.specs.declared.state.Blocks.{Blocks}
-use Rattle.blocks.specs.Service.{Fixed, Leaves, Unchanged, Refuses, Gives, Ends, Reads, Trims, Passes}
+use Rattle.blocks.specs.Service.{Fixed, Leaves, Unchanged, Gives, Ends, Reads, Trims, Passes}
 use Rattle.blocks.proofs.Words.{released-places}
 
 module _ {L B S : Type 0} (bm : Ghosts B L Entry) (sm : Ghosts S StreamLabel Position) where

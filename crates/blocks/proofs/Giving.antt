@@ -1,7 +1,7 @@
 -- A block sent out at a number, or the refusal, goes by the rules.
-use Prim.Native.Nat.{ℕ, _+_, _≤_, _<_, min}
+use Prim.Native.Nat.{ℕ, _<_}
 use mathlib.Core.Path.{_≡_, refl, sym, _∙_, ap, subst}
-use mathlib.Core.Logic.{_⊎_, inl, inr}
+use mathlib.Core.Logic.{inl, inr}
 use mathlib.Core.List.{List, [], _∷_}
 use native.Mathlib.Omega.{arith}
 use lib.Dec.{eqb}
@@ -18,18 +18,17 @@ use Rattle.ring.specs.declared.queue.Ring.{Ring}
 use Rattle.ring.specs.Queue.{items, places, Pops}
 use Rattle.rules.specs.declared.Entry.{Entry}
 use Rattle.rules.specs.declared.Position.{Position}
-use Rattle.rules.specs.Calls.{Limits, Standing, Call, Answer}
+use Rattle.rules.specs.Calls.{Limits}
 use Rattle.rules.specs.Calls.Call.{begin}
-use Rattle.rules.specs.Calls.Answer.{granted, refused}
+use Rattle.rules.specs.Calls.Answer.{granted}
 use Rattle.rules.specs.Rules.{Step, Full, out-of, settled-of, entry}
 use Rattle.rules.specs.History.{History}
 use Rattle.blocks.specs.declared.state.Blocks.{Blocks}
 use Rattle.blocks.specs.Pool.{lost-in, more}
 use Rattle.blocks.specs.Stores.{Stores}
-use Rattle.blocks.specs.Service.{limits-of, standing, Lived, Leaves, Unchanged, Refuses, SentOut, pass}
+use Rattle.blocks.specs.Service.{limits-of, standing, Lived, Unchanged, Refuses, SentOut, pass}
 use Rattle.blocks.proofs.Words.{at, front-none, not-empty, some-entry}
 use Rattle.blocks.proofs.Lives.{lives, outs-below}
-use Rattle.std.specs.declared.result.Result.the-variants.{Ok}
 use mathlib.Core.Bool.{true, false}
 use Rattle.std.specs.Options.{isSome}
 

@@ -1,7 +1,7 @@
 -- A service just made stands at the start of a history.
-use Prim.Native.Nat.{ℕ, zero, suc, _+_, _≤_}
+use Prim.Native.Nat.{ℕ, zero, suc, _≤_}
 use mathlib.Core.Path.{_≡_, refl, sym, _∙_, ap, subst, fun-ext}
-use mathlib.Core.Bool.{Bool, true, false}
+use mathlib.Core.Bool.{true, false}
 use mathlib.Core.List.{List, [], _∷_}
 use native.Mathlib.Omega.{arith}
 use native.Mathlib.Numerals.{add-one}
@@ -20,7 +20,6 @@ use Rattle.map.proofs.Sets.{number-none}
 use Rattle.ring.specs.Queue.{items, places}
 use Rattle.rules.specs.declared.Entry.{Entry}
 use Rattle.rules.specs.declared.Position.{Position}
-use Rattle.blocks.specs.declared.pool.Mark.{Mark}
 use Rattle.blocks.specs.declared.pool.Mark.the-variants.{Sound}
 use Rattle.blocks.specs.declared.state.Blocks.{Blocks}
 use Rattle.blocks.specs.Pool.{lost-in}

@@ -1,15 +1,12 @@
 -- A grant just given is never refused its ending.
 use Prim.Native.Nat.{ℕ}
-use mathlib.Core.Path.{_≡_, refl, sym, _∙_, ap, subst}
+use mathlib.Core.Path.{_≡_, sym, _∙_, ap, subst}
 use mathlib.Core.Logic.{_⊎_, inl, inr, ⊎-elim}
-use mathlib.Core.Bool.{Bool, true, false}
-use mathlib.Core.List.{List, [], _∷_}
-use lib.Dec.{eqb}
-use Rattle.std.specs.declared.option.Option.{Option}
-use Rattle.std.specs.declared.option.Option.the-variants.{Some, None}
+use mathlib.Core.Bool.{true, false}
+use mathlib.Core.List.{_∷_}
+use Rattle.std.specs.declared.option.Option.the-variants.{Some}
 use Rattle.std.specs.declared.result.Result.{Result}
 use Rattle.std.specs.declared.result.Result.the-variants.{Ok, Err}
-use Rattle.std.specs.shelf.Maps.{update}
 use Rattle.std.proofs.shelf.Maps.{update-here}
 use Rattle.std.proofs.shelf.Tests.{true≢false}
 use Rattle.refusal.specs.declared.Refusal.{Refusal}
@@ -17,18 +14,17 @@ use Rattle.label.specs.declared.stream.StreamLabel.{StreamLabel}
 use Rattle.map.specs.declared.Map.{Ghosts}
 use Rattle.rules.specs.declared.Entry.{Entry}
 use Rattle.rules.specs.declared.Position.{Position}
-use Rattle.rules.specs.Calls.{Limits, Standing, Call, Answer}
+use Rattle.rules.specs.Calls.{Limits, Standing, Answer}
 use Rattle.rules.specs.Calls.Call.{begin}
 use Rattle.rules.specs.Calls.Answer.{granted, block, opened, closed, stands, counts, refused}
 use Rattle.rules.specs.Rules.{Step, checks, Accepts, out-of, settled-of, entry}
 use Rattle.rules.specs.History.{History, accepted}
-use Rattle.rules.proofs.Places.{some-one}
 use Rattle.rules.proofs.Runs.{judged, out-entry}
 use Rattle.rules.specs.Laws.{First}
 use Rattle.entry.specs.declared.Ending.{Ending}
 use Rattle.entry.specs.declared.Ending.the-variants.{Commit, Abandon, Condemn}
 use Rattle.blocks.specs.declared.state.Blocks.{Blocks}
-use Rattle.blocks.specs.Service.{limits-of, standing, Lived, Goes, Faulty, Passed, Passes, Refuses, Gives, Ends, given, finished, end-call, pass}
+use Rattle.blocks.specs.Service.{limits-of, standing, Lived, Goes, Faulty, Passed, Passes, Gives, Ends, given, finished, end-call, pass}
 
 abbrev granted-block : Answer → ℕ
 granted-block (granted g) = g .block

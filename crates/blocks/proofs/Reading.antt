@@ -1,12 +1,11 @@
 -- A trim and a tally go by the rules.
-use Prim.Native.Nat.{ℕ, _+_, _-_, _≤_, _<_}
+use Prim.Native.Nat.{ℕ, _+_, _-_, _<_}
 use mathlib.Core.Path.{_≡_, refl, sym, _∙_, ap, subst}
-use mathlib.Core.Logic.{inl, inr}
+use mathlib.Core.Logic.{inr}
 use mathlib.Core.Bool.{Bool, true, false}
-use mathlib.Core.List.{List, [], _∷_, _++_}
+use mathlib.Core.List.{_∷_, _++_}
 use native.Mathlib.Omega.{arith}
 use lib.Dec.{eqb}
-use lib.ListN.{length}
 use Rattle.std.specs.declared.option.Option.{Option}
 use Rattle.std.specs.declared.option.Option.the-variants.{Some, None}
 use Rattle.std.specs.Options.{isSome}
@@ -20,7 +19,7 @@ use Rattle.ring.specs.Queue.{items, places}
 use Rattle.rules.specs.declared.Entry.{Entry}
 use Rattle.rules.specs.declared.Position.{Position}
 use Rattle.rules.specs.declared.Tally.{Tally}
-use Rattle.rules.specs.Calls.{Limits, Standing}
+use Rattle.rules.specs.Calls.{Standing}
 use Rattle.rules.specs.Calls.Call.{trim, tally}
 use Rattle.rules.specs.Calls.Answer.{block, counts}
 use Rattle.rules.specs.Rules.{Step, out-of, settled-of, back}

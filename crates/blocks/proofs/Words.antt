@@ -2,15 +2,14 @@
 use Prim.Native.Nat.{ℕ, zero, suc, _+_, _≤_, _<_}
 use mathlib.Core.Path.{_≡_, refl, sym, _∙_, ap}
 use mathlib.Core.Logic.{_⊎_, inl, inr, ⊎-elim, _↔_}
-use mathlib.Core.Bool.{Bool, true, false, cond, _||_}
+use mathlib.Core.Bool.{true, false, _||_}
 use mathlib.Core.List.{List, [], _∷_, _++_, append-nil}
 use native.Mathlib.Omega.{arith}
-use lib.Dec.{eqb, ltb}
-use lib.ListN.{length, getD, set, replicate, length-append, length-set}
+use lib.Dec.{eqb}
+use lib.ListN.{length, set, replicate, length-append, length-set}
 use Rattle.std.specs.declared.option.Option.{Option}
 use Rattle.std.specs.declared.option.Option.the-variants.{Some, None}
 use Rattle.std.specs.Options.{isSome}
-use Rattle.std.specs.Vec.{listOf}
 use Rattle.std.specs.Finite.{nth}
 use Rattle.std.proofs.shelf.Lists.{getD-set-same, getD-set-other}
 use Rattle.std.proofs.shelf.Tests.{cases-eq, eq-eqb, ne-eqb, or-cases, or-right, true≢false, cond-true, eqb-true, lt-ltb}
@@ -34,9 +33,6 @@ at w f x d = record { waiting = w; entries = f; streams = x; condemned = d }
 pub front-none : (xs : List ℕ) → None ≡ nth xs 0 → xs ≡ []
 front-none [] e = refl
 front-none (x ∷ xs) e = absurd (true≢false (ap isSome (sym e)))
-
-pub front-some : (xs ys : List ℕ) (b : ℕ) → xs ≡ listOf (Some b) ++ ys → xs ≡ b ∷ ys
-front-some xs ys b e = e
 
 pub not-empty : (b : ℕ) (w : List ℕ) → Some b ≡ nth w 0 → w ≡ [] → ⊥
 not-empty b w e z = true≢false (ap isSome (e ∙ ap (λ v. nth v 0) z))

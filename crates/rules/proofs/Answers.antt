@@ -2,19 +2,16 @@
 use Prim.Native.Nat.{ℕ, _+_}
 use mathlib.Core.Path.{_≡_, refl, sym, _∙_, ap, subst}
 use mathlib.Core.Logic.{_⊎_, inl, inr, ⊎-elim, _↔_}
-use mathlib.Core.Bool.{Bool, true, false}
-use mathlib.Core.List.{List, [], _∷_}
-use Rattle.std.specs.declared.option.Option.{Option}
-use Rattle.std.specs.declared.option.Option.the-variants.{Some, None}
+use mathlib.Core.Bool.{true, false}
+use mathlib.Core.List.{[], _∷_}
+use Rattle.std.specs.declared.option.Option.the-variants.{Some}
 use Rattle.std.proofs.shelf.Tests.{true≢false}
 use Rattle.refusal.specs.declared.Refusal.{Refusal}
 use Rattle.map.proofs.Sets.{number-one}
-use Rattle.rules.specs.declared.Position.{Position}
-use Rattle.rules.specs.declared.Tally.{Tally}
-use Rattle.rules.specs.Calls.{Grant, Limits, Standing, Call, Answer}
+use Rattle.rules.specs.Calls.{Limits, Standing, Call, Answer}
 use Rattle.rules.specs.Calls.Call.{begin, append, commit, abandon, condemn, read, trim, openStream, closeStream, position, tally}
-use Rattle.rules.specs.Calls.Answer.{granted, block, opened, closed, stands, counts, refused}
-use Rattle.rules.specs.Rules.{Checks, Judges, Step, checks, Accepts, Grants, entry, settled-of, with-entry, with-stream, with-waiting}
+use Rattle.rules.specs.Calls.Answer.{granted, block, closed, stands, counts, refused}
+use Rattle.rules.specs.Rules.{Checks, Judges, checks, Accepts, Grants, entry, settled-of, with-entry, with-stream, with-waiting}
 use Rattle.rules.specs.History.{accepted}
 use Rattle.rules.specs.Laws.{First, OneAnswer, RefusedExactly}
 use Rattle.rules.proofs.Places.{some-one}

@@ -2,20 +2,19 @@
 use Prim.Native.Nat.{ℕ, _+_, _-_, _<_}
 use mathlib.Core.Path.{_≡_, refl, sym, _∙_, ap, subst}
 use mathlib.Core.Logic.{_⊎_, inl, inr, ⊎-elim}
-use mathlib.Core.Bool.{Bool, true, false}
+use mathlib.Core.Bool.{true}
 use native.Mathlib.Omega.{arith}
 use lib.ListN.{length}
-use Rattle.std.specs.declared.option.Option.{Option}
-use Rattle.std.specs.declared.option.Option.the-variants.{Some, None}
+use Rattle.std.specs.declared.option.Option.the-variants.{Some}
 use Rattle.map.specs.Sets.{Distinct, Number}
 use Rattle.map.proofs.Sets.{number-one, number-map, number-add, number-counted, number-exists}
 use Rattle.rules.specs.declared.Tally.{Tally}
-use Rattle.rules.specs.Calls.{Limits, Standing, Call, Answer}
+use Rattle.rules.specs.Calls.{Limits, Standing}
 use Rattle.rules.specs.Calls.Call.{tally}
 use Rattle.rules.specs.Calls.Answer.{counts}
-use Rattle.rules.specs.Rules.{Step, Counted, out-of, settled-of}
+use Rattle.rules.specs.Rules.{Step, out-of, settled-of}
 use Rattle.rules.specs.History.{History, Run, Ledger, ledger, grants, endings}
-use Rattle.rules.proofs.Places.{Place, At, Placed, one-place, apart}
+use Rattle.rules.proofs.Places.{Place, At, Placed, apart}
 use Rattle.rules.proofs.Places.Place.{waits, out-at, settled-at, retired}
 use Rattle.rules.proofs.Runs.{Good, run-good, out-is, settled-is}
 

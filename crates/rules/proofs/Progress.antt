@@ -1,8 +1,8 @@
 -- From every standing that a history leads to, each call has an answer; and the laws together.
-use Prim.Native.Nat.{ℕ, zero, suc, _+_, _≤_, _<_}
+use Prim.Native.Nat.{ℕ, _+_, _≤_, _<_}
 use mathlib.Core.Path.{_≡_, refl, sym, _∙_, ap}
 use mathlib.Core.Logic.{_⊎_, inl, inr, ⊎-elim, _≢_}
-use mathlib.Core.Bool.{Bool, true, false}
+use mathlib.Core.Bool.{true, false}
 use mathlib.Core.List.{List, [], _∷_}
 use native.Mathlib.Omega.{arith}
 use lib.ListN.{length}
@@ -13,11 +13,11 @@ use Rattle.map.proofs.Sets.{number-exists}
 use Rattle.rules.specs.declared.Position.{Position}
 use Rattle.rules.specs.Calls.{Grant, Labels, Limits, Standing, Call, Answer}
 use Rattle.rules.specs.Calls.Call.{begin, append, commit, abandon, condemn, read, trim, openStream, closeStream, position, tally}
-use Rattle.rules.specs.Calls.Answer.{granted, block, opened, closed, stands, counts, refused}
+use Rattle.rules.specs.Calls.Answer.{block, refused}
 use Rattle.rules.specs.Rules.{Checks, Judges, Step, checks, grant-checks, ending-checks, Accepts, out-of, Full, next-of, end-of}
 use Rattle.rules.specs.History.{History, Run, ledger, grants, endings}
 use Rattle.rules.specs.Laws.{Decided, SomeAnswer, Laws}
-use Rattle.rules.proofs.Places.{Placed, never, some-one}
+use Rattle.rules.proofs.Places.{never, some-one}
 use Rattle.rules.proofs.Places.Place.{retired}
 use Rattle.rules.proofs.Runs.{Good, run-good, NoneOf}
 use Rattle.rules.proofs.Counts.{tally-kept}

@@ -1,8 +1,8 @@
 -- After every run a service stands as its ledger has it, with every block in one place.
-use Prim.Native.Nat.{ℕ, zero, suc, _+_, _≤_, _<_}
+use Prim.Native.Nat.{ℕ, _+_, _<_}
 use mathlib.Core.Path.{_≡_, refl, sym, _∙_, ap, subst, fun-ext}
 use mathlib.Core.Logic.{_⊎_, inl, inr, ⊎-elim, _↔_, _≢_}
-use mathlib.Core.Bool.{Bool, true, false, _||_}
+use mathlib.Core.Bool.{_||_}
 use mathlib.Core.List.{List, [], _∷_, _++_, append-nil}
 use native.Mathlib.Omega.{arith}
 use native.Mathlib.Nat.{zero-add}
@@ -11,20 +11,20 @@ use Rattle.std.specs.declared.option.Option.{Option}
 use Rattle.std.specs.declared.option.Option.the-variants.{Some, None}
 use Rattle.std.specs.shelf.Maps.{update}
 use Rattle.std.proofs.shelf.Maps.{update-here, update-apart, update-update}
-use Rattle.std.proofs.shelf.Tests.{cases-eq, or-cases, or-left, or-right, eqb-true, eq-eqb}
+use Rattle.std.proofs.shelf.Tests.{cases-eq}
 use Rattle.refusal.specs.declared.Refusal.{Refusal}
 use Rattle.map.specs.Sets.{Number}
 use Rattle.map.proofs.Lists.{in-head}
 use Rattle.map.proofs.Sets.{number-more, number-less, number-none}
 use Rattle.rules.specs.declared.Entry.{Entry}
-use Rattle.rules.specs.declared.Entry.the-variants.{Settled, Fresh, Change}
+use Rattle.rules.specs.declared.Entry.the-variants.{Settled}
 use Rattle.rules.specs.declared.Position.{Position}
-use Rattle.rules.specs.Calls.{Grant, Labels, Limits, Standing, Call, Answer}
+use Rattle.rules.specs.Calls.{Limits, Standing, Call, Answer}
 use Rattle.rules.specs.Calls.Call.{begin, append, commit, abandon, condemn, read, trim, openStream, closeStream, position, tally}
-use Rattle.rules.specs.Calls.Answer.{granted, block, opened, closed, stands, counts, refused}
-use Rattle.rules.specs.Rules.{Checks, Judges, Step, checks, Accepts, Grants, entry, out-of, settled-of, back, with-entry, with-stream, with-waiting, with-condemned, release, undo, next-of}
-use Rattle.rules.specs.History.{History, Run, fresh, Ledger, ledger, noted, moves, send-out, settle, take-back, retire, clear, head, is-at, given-by, ended-by, grants, endings}
-use Rattle.rules.proofs.Places.{Place, At, Placed, Moves, moved, apart, one-place, updated, some-none, some-one, never, set-was, set-stays, sent, brought-back, cleared, thrown, settled-only, goes-out, goes-back, comes-back, is-thrown, is-settled, not-twice, placed-fresh}
+use Rattle.rules.specs.Calls.Answer.{block, refused}
+use Rattle.rules.specs.Rules.{Checks, Judges, Step, checks, Accepts, entry, out-of, settled-of, back, with-entry, with-stream, with-waiting, with-condemned, release, next-of}
+use Rattle.rules.specs.History.{History, Run, fresh, Ledger, ledger, noted, send-out, settle, take-back, retire, clear, head, is-at, given-by, ended-by, grants, endings}
+use Rattle.rules.proofs.Places.{At, Placed, moved, apart, updated, some-none, some-one, never, set-was, set-stays, sent, brought-back, cleared, thrown, settled-only, goes-out, goes-back, comes-back, is-thrown, is-settled, not-twice, placed-fresh}
 use Rattle.rules.proofs.Places.Place.{waits, out-at, settled-at, retired}
 
 -- ---- the checks

@@ -15,7 +15,7 @@ use Rattle.std.specs.declared.option.Option.{Option}
 use Rattle.std.specs.declared.option.Option.the-variants.{Some, None}
 use Rattle.std.specs.shelf.Maps.{update}
 use Rattle.map.specs.Sets.{counted}
-use Rattle.rules.specs.Calls.{Labels, Limits, Standing, Grant, Call, Answer}
+use Rattle.rules.specs.Calls.{Labels, Limits, Standing, Call, Answer}
 use Rattle.rules.specs.Calls.Call.{begin, append, commit, abandon, condemn, read, trim, openStream, closeStream, position, tally}
 use Rattle.rules.specs.Calls.Answer.{granted, block, opened, closed, stands, counts, refused}
 use Rattle.rules.specs.Rules.{Step, back}

@@ -9,7 +9,7 @@
 use Prim.Native.Nat.{ℕ}
 use mathlib.Core.Path.{_≡_}
 use mathlib.Core.Logic.{_⊎_, _↔_}
-use mathlib.Core.List.{List, [], _∷_}
+use mathlib.Core.List.{[], _∷_}
 use Rattle.std.specs.declared.option.Option.{Option}
 use Rattle.refusal.specs.declared.Refusal.{Refusal}
 use Rattle.rules.specs.Calls.{Labels, Limits, Standing, Call, Answer}

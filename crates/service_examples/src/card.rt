@@ -72,7 +72,7 @@ pub const QUIET: Row<StreamLabel, Position> = Row {
 };
 
 // A service over two maps.
-pub fn make<'a, L: BlockNumber, B: Map<L, Entry>, S: Map<StreamLabel, Position>>(
+pub(crate) fn make<'a, L: BlockNumber, B: Map<L, Entry>, S: Map<StreamLabel, Position>>(
     limit: u32,
     cells: &'a mut [u32],
     marks: &'a mut [Mark],
@@ -107,7 +107,7 @@ fn finish<'a, L: BlockNumber, B: Map<L, Entry>, S: Map<StreamLabel, Position>>(
 }
 
 // A begin, and at once its ending where it is granted.
-pub fn touch<'a, L: BlockNumber, B: Map<L, Entry>, S: Map<StreamLabel, Position>>(
+pub(crate) fn touch<'a, L: BlockNumber, B: Map<L, Entry>, S: Map<StreamLabel, Position>>(
     service: &mut Blocks<'a, L, B, S>,
     n: u32,
     ending: Ending,
@@ -159,7 +159,7 @@ fn probes<'a, L: BlockNumber, B: Map<L, Entry>, S: Map<StreamLabel, Position>>(
 }
 
 // The same, and the service may be asked on.
-pub fn says<'a, L: BlockNumber, B: Map<L, Entry>, S: Map<StreamLabel, Position>>(
+pub(crate) fn says<'a, L: BlockNumber, B: Map<L, Entry>, S: Map<StreamLabel, Position>>(
     service: &mut Blocks<'a, L, B, S>,
     rows: &[(Ask, Answer)],
 ) -> Result<(), Fail>
@@ -179,7 +179,7 @@ fn agree(
 }
 
 // A begin that is granted the block, the rows while it is out, and its ending.
-pub fn out<'a, L: BlockNumber, B: Map<L, Entry>, S: Map<StreamLabel, Position>>(
+pub(crate) fn out<'a, L: BlockNumber, B: Map<L, Entry>, S: Map<StreamLabel, Position>>(
     service: &mut Blocks<'a, L, B, S>,
     n: u32,
     block: u32,
@@ -236,7 +236,7 @@ fn foreign<'a, 'b, L: BlockNumber, B: Map<L, Entry>, S: Map<StreamLabel, Positio
 }
 
 // The same for each ending; neither service is changed by it.
-pub fn foreign_each<'a, 'b, L: BlockNumber, B: Map<L, Entry>, S: Map<StreamLabel, Position>>(
+pub(crate) fn foreign_each<'a, 'b, L: BlockNumber, B: Map<L, Entry>, S: Map<StreamLabel, Position>>(
     own: &mut Blocks<'a, L, B, S>,
     other: &mut Blocks<'b, L, B, S>,
     number: u8,
@@ -252,7 +252,7 @@ pub fn foreign_each<'a, 'b, L: BlockNumber, B: Map<L, Entry>, S: Map<StreamLabel
 }
 
 // A fresh service answers the rows.
-pub fn runs(
+pub(crate) fn runs(
     limit: u32,
     cells: &mut [u32],
     marks: &mut [Mark],
@@ -275,7 +275,7 @@ pub struct Change {
 }
 
 // A fresh service answers the rows before a grant, while it is out, and after its ending.
-pub fn runs_out(
+pub(crate) fn runs_out(
     limit: u32,
     cells: &mut [u32],
     marks: &mut [Mark],
@@ -301,7 +301,11 @@ pub fn runs_out(
 }
 
 // The check refuses, and so does every call.
-pub fn refuses<L: BlockNumber, B: Map<L, Entry> + Drop, S: Map<StreamLabel, Position> + Drop>(
+pub(crate) fn refuses<
+    L: BlockNumber,
+    B: Map<L, Entry> + Drop,
+    S: Map<StreamLabel, Position> + Drop,
+>(
     limit: u32,
     cells: &mut [u32],
     marks: &mut [Mark],

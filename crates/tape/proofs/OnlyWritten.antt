@@ -13,10 +13,10 @@ use Rattle.refusal.specs.declared.Refusal.{Refusal}
 use Rattle.refusal.specs.declared.Refusal.the-variants.{FieldCutShort, TapeTooLong}
 use Rattle.tape.specs.declared.calls.Call.{Call}
 use Rattle.tape.specs.declared.fields.Reading.{Reading}
-use Rattle.tape.specs.Calls.{tag-of, contents-of, decoded, Decodes, call, unknown, wrong}
+use Rattle.tape.specs.Calls.{tag-of, contents-of, Decodes, call, unknown, wrong}
 use Rattle.tape.specs.Fields.{tag-at, size-at, contents-at, behind, Whole}
-use Rattle.tape.specs.Tapes.{Reads, end, short, field, Tape}
-use Rattle.tape.specs.Written.{encoded, written, placed, Only-written}
+use Rattle.tape.specs.Tapes.{Reads, end, short, field}
+use Rattle.tape.specs.Written.{written, placed, Only-written}
 use Rattle.tape.proofs.Decoding.{decodes}
 
 abbrev Bytes : List ℕ → Type 0

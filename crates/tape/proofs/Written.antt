@@ -1,17 +1,16 @@
 -- A tape that is written from calls says those calls.
-use Prim.Native.Nat.{ℕ, _+_, _*_, _/_, _%_, _≤_}
-use mathlib.Core.Path.{_≡_, refl, sym, ap, _∙_, subst}
+use Prim.Native.Nat.{ℕ, _+_, _*_, _/_, _%_}
+use mathlib.Core.Path.{_≡_, refl, sym, subst}
 use mathlib.Core.Logic.{inr}
 use mathlib.Core.List.{List, [], _∷_, _++_, append-assoc}
 use native.Mathlib.Omega.{arith}
 use lib.ListN.{length, length-append}
 use lib.Seq.{getD-append-seam, getD-append-add, drop-append-add, take-append-seam}
-use Rattle.std.specs.declared.result.Result.the-variants.{Ok}
 use Rattle.tape.specs.declared.calls.Call.{Call}
 use Rattle.tape.specs.declared.calls.Call.the-variants.{Write, Drop, Spoil, Read, Trim, Tally}
 use Rattle.tape.specs.declared.fields.Reading.{Reading}
 use Rattle.tape.specs.Calls.{tag-of, contents-of, decoded}
-use Rattle.tape.specs.Fields.{tag-at, size-at, contents-at, behind, Whole}
+use Rattle.tape.specs.Fields.{tag-at, size-at, contents-at, Whole}
 use Rattle.tape.specs.Tapes.{Reads, end, field}
 use Rattle.tape.specs.Written.{encoded, written, All-small, placed, Written-reads}
 use Rattle.tape.proofs.Decoding.{own-field}

@@ -8,7 +8,7 @@ use mathlib.Core.Path.{_≡_}
 use mathlib.Core.Logic.{_⊎_}
 use mathlib.Core.List.{List, [], _∷_}
 use lib.ListN.{length}
-use Rattle.std.specs.declared.result.Result.the-variants.{Ok, Err}
+use Rattle.std.specs.declared.result.Result.the-variants.{Err}
 use Rattle.refusal.specs.declared.Refusal.the-variants.{FieldCutShort, TapeTooLong}
 use Rattle.tape.specs.declared.fields.Reading.{Reading}
 use Rattle.tape.specs.Calls.{decoded}

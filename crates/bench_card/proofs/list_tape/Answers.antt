@@ -1,5 +1,5 @@
 -- The card's sizes are allowed and its maps are empty, so it is fresh.
-use mathlib.Core.Path.{_≡_, refl, sym, _∙_}
+use mathlib.Core.Path.{refl, _∙_}
 use native.Mathlib.Omega.{arith}
 use Rattle.std.proofs.shelf.Results.{made-weaker}
 use Rattle.map.specs.Sets.{AtMost}

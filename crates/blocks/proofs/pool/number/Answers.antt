@@ -1,9 +1,9 @@
 -- Each turn numbers one cell more.
-use mathlib.Core.Path.{_≡_, sym, _∙_}
+use mathlib.Core.Path.{_∙_}
 use mathlib.Core.Logic.{_≢_}
 use native.Mathlib.Omega.{arith}
 use borrow.Author.Count.{below-more}
-use Prim.Native.Nat.{ℕ, _<_}
+use Prim.Native.Nat.{_<_}
 use lib.ListN.{length}
 use Rattle.std.proofs.shelf.Lists.{map-id, getD-set-same, getD-set-other}
 use Rattle.std.proofs.shelf.Counted.{fill-by-all}

@@ -1,9 +1,7 @@
 -- Each turn plays the next field.
-use mathlib.Core.Path.{refl, sym, _∙_, subst}
+use mathlib.Core.Path.{refl, _∙_}
 use mathlib.Core.List.{[], _∷_, _++_}
-use Rattle.std.specs.Of.Vec.{vec-items}
 use Rattle.tape.proofs.Runs.{reads-none, reads-more, reads-all}
-use Rattle.listing.specs.Plays.{PlaysOn}
 use Rattle.listing.proofs.Steps.{plays-none, plays-more}
 use Rattle.listing.proofs.playing.rest.Needs as need
 

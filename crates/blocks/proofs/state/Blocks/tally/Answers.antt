@@ -5,8 +5,6 @@ use mathlib.Core.Path.{_≡_, refl}
 use native.Mathlib.Omega.{arith}
 use lib.ListN.{length}
 use Rattle.ring.specs.Queue.{items, places}
-use Rattle.rules.proofs.Counts.{tally-of}
-use Rattle.blocks.specs.Service.{standing}
 use Rattle.blocks.proofs.Reading.{tallied-lives}
 use Rattle.blocks.proofs.state.Blocks.tally.Needs as need
 

@@ -1,6 +1,5 @@
 -- The text of a tally and of a fault.
-use mathlib.Core.Path.{_≡_, subst, sym, _∙_, ap}
-use borrow.Author.Needs.{needs}
+use mathlib.Core.Path.{sym}
 use Rattle.listing.proofs.lines.LineDisplay.fmt.Needs as need
 
 pub returns-in-Counts : need.returns-in-Counts
