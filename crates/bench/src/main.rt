@@ -1,4 +1,6 @@
 // The returns bench: a tape goes in on standard input, and its listing comes out, a line for each field.
+#![tactic(auto)]
+
 use anyhow::anyhow;
 use bench_card::list_tape;
 use std::env;

@@ -1,4 +1,6 @@
 // The card of the returns bench: eight blocks of the old line, every block number but the last, four streams.
+#![tactic(auto)]
+
 ghost use Rattle.std.specs.Prelude.{◌≡◌, IfOk};
 ghost use Rattle.bench_card.specs.Card.{Listed};
 

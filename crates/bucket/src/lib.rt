@@ -1,4 +1,6 @@
 // One bucket of the table: where a digest sends its label, the four slots, the filter and moved count, and the marks of the reached list.
+#![tactic(auto)]
+
 mod marks;
 mod slots;
 mod spread;

@@ -1,4 +1,6 @@
 // Examples of the bucket map, over 1 to 4,096 buckets: each is proved to be safe and to end, and then run.
+#![tactic(auto)]
+
 #[cfg(test)]
 mod areas;
 #[cfg(test)]

@@ -1,4 +1,6 @@
 // The life of one entry: what each event makes of it.
+#![tactic(auto)]
+
 ghost use Rattle.std.specs.Prelude.{◌≡◌, Some, None};
 ghost use Rattle.rules.specs.Rules.{settled_of};
 ghost use Rattle.entry.specs.Turns.{Turns, event_of};

@@ -1,4 +1,6 @@
 // A host that programs blocks: it holds the grant while the flash is being written.
+#![tactic(auto)]
+
 ghost use Rattle.std.specs.Prelude.{◌≡◌, Some, None, Err};
 ghost use Rattle.blocks.specs.Service.{Lived, Goes, Back, end_call, plain, ended};
 ghost use Rattle.rules.specs.History.{History};

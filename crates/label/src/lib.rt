@@ -1,4 +1,6 @@
 // Labels: what the pairs of a map go by. A label has a number, which says what it is, and a digest, which says where a hashed map looks for it.
+#![tactic(auto)]
+
 ghost use Rattle.std.specs.Prelude.{ℕ, ◌≡◌, eqb};
 
 mod digest;

@@ -1,4 +1,6 @@
 // A tape played on a service, field by field: each field adds one line to the listing.
+#![tactic(auto)]
+
 mod lines;
 mod playing;
 

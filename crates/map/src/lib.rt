@@ -1,4 +1,6 @@
 // What a map promises, whatever its area looks like: it means pairs of a label and a payload, and it has a fit, the sets of labels that it can hold.
+#![tactic(auto)]
+
 ghost use Rattle.std.specs.Prelude.{ℕ, Bool, Option};
 ghost use Rattle.map.specs.Meaning.{Finds, Asks, Puts, Takes, Counted};
 

@@ -1,4 +1,6 @@
 // Why a call is refused or a tape faulted: the closed set of reasons, each with its number and its layer.
+#![tactic(auto)]
+
 ghost use Rattle.std.specs.Prelude.{◌≡◌};
 ghost use Rattle.refusal.specs.Numbers.{code, depth, layer_of};
 

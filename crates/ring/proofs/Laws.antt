@@ -1,5 +1,5 @@
 -- Laws of a ring's contents: a value goes in behind the last one, and the front leaves, round the end of the cells.
-use Rattle.std.proofs.Common.{◌≡◌, ℕ, zero, suc, ◌+◌, ◌-◌, ◌<◌, ◌≤◌, min, List, [], ◌∷◌, ◌++◌, length, get_or, take, drop, set, Some, None, sym, refl, ap, ◌∙◌, ⊎_elim, sub-one, arith, length-append, length-drop, length-set, length-take, Bor}
+use Rattle.std.proofs.Common.{◌≡◌, ℕ, zero, suc, ◌+◌, ◌-◌, ◌<◌, ◌≤◌, min, List, [], ◌∷◌, ◌++◌, length, get_or, take, drop, set, Some, None, sym, refl, ap, ◌∙◌, ⊎_elim, sub-one, arith, length-append, length-drop, length-set, length-take, MutBor}
 use Rattle.std.proofs.lemmas.List.{append-nil, append_assoc, take_more_set, take_all, drop_all, drop_more, drop-set-add, drop-set-lt, nil_from_length}
 use Rattle.std.proofs.lemmas.Bool.{cases_lt}
 use Rattle.std.proofs.lemmas.Bool.Decides.{nat_tests}
@@ -123,7 +123,7 @@ module _ {X : Type 0} (xs : List X) (h n k : ℕ) (e : k ≡ length (held_in xs 
 
 -- what the contracts say, by their records
 module _ {X : Type 0} where
-  pub full_of : (c : Bor (List X)) (t : Ring X) → t ≡ record { cells = c; head = 0; count = length c.now } → Full c t
+  pub full_of : (c : MutBor (List X)) (t : Ring X) → t ≡ record { cells = c; head = 0; count = length c.now } → Full c t
   full_of c t q =
       let n = length c.now in
       rw q (record { cells = refl; head = refl; count = refl; places = refl; items = rw (start_zero n, least_in n n (omega arith)) (contents_all c.now) })

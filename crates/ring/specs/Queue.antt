@@ -11,7 +11,7 @@
 --   Pops r x t         popping at r answers x and leaves t
 -- Assumes nothing: each holds of every head and count.
 use Rattle.std.specs.Prelude.{◌≡◌, ℕ, ◌+◌, ◌-◌, min, Bool, false, cond, List, [], ◌∷◌, ◌++◌, length, take, drop, is_some, None, Option, nat_lt, slice_set}
-use Rattle.std.specs.Borrow.{Bor}
+use Rattle.std.specs.Borrow.{MutBor}
 use Rattle.std.specs.Option.{option_to_list}
 use Rattle.std.specs.List.{slice_get}
 use Rattle.ring.specs.declared.queue.Ring.{Ring}
@@ -60,7 +60,7 @@ pub record Pops {X : Type 0} (r : Ring X) (x : Option X) (t : Ring X) : Type 0 w
   pub items : items r ≡ option_to_list x ++ items t
 
 -- an empty ring over the lent cells c
-pub record Empty {X : Type 0} (c : Bor (List X)) (t : Ring X) : Type 0 where
+pub record Empty {X : Type 0} (c : MutBor (List X)) (t : Ring X) : Type 0 where
   pub cells : t.cells ≡ c
   pub head : t.head ≡ 0
   pub count : t.count ≡ 0
@@ -68,7 +68,7 @@ pub record Empty {X : Type 0} (c : Bor (List X)) (t : Ring X) : Type 0 where
   pub items : items t ≡ []
 
 -- a ring that holds what all the lent cells c hold
-pub record Full {X : Type 0} (c : Bor (List X)) (t : Ring X) : Type 0 where
+pub record Full {X : Type 0} (c : MutBor (List X)) (t : Ring X) : Type 0 where
   pub cells : t.cells ≡ c
   pub head : t.head ≡ 0
   pub count : t.count ≡ length c.now

@@ -1,4 +1,5 @@
 // What a service pairs with its labels, and what it counts: the plain values that the rules speak of.
+#![tactic(auto)]
 
 // The state of a block number: a block settled there, a block out on a grant, or both.
 #[derive(Clone, Copy)]

@@ -1,4 +1,6 @@
 // The breadth-first search for an unused slot, from the two buckets of a label. It visits each bucket that it reaches once, and writes nothing but marks.
+#![tactic(auto)]
+
 mod expanding;
 mod searching;
 

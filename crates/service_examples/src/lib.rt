@@ -1,4 +1,6 @@
 // Examples of services and of listings, each proved and then run.
+#![tactic(auto)]
+
 #[cfg(test)]
 mod card;
 #[cfg(test)]

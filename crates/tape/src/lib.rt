@@ -1,4 +1,6 @@
 // The reading half of the call tape: the fields of a byte string, and the call or the fault of each.
+#![tactic(auto)]
+
 mod calls;
 mod faults;
 mod fields;

@@ -1,4 +1,6 @@
 // Examples of tapes and of rings, each proved and then run.
+#![tactic(auto)]
+
 #[cfg(test)]
 mod rings;
 #[cfg(test)]

@@ -17,4 +17,4 @@ turned n r h e =
 pub returns : goal.returns
 returns c =
     let h : c.args.n < 2 ^ 32 = omega arith in
-    turned c.args.n c.rotate-right.result h c.rotate-right.ensures
+    turned c.args.n c.rotate_right.result h c.rotate_right.ensures

@@ -5,7 +5,7 @@ use Rattle.ring.proofs.queue.Ring.front.Goals as goal
 
 pub returns : goal.returns
 returns g c =
-    let p = pops_of c.args.self.now c.len.result c.front-cell.result c.value.result _ c.len.ensures.count c.front-cell.ensures c.if-len-eq0.false refl in
+    let p = pops_of c.args.self.now c.len.result c.front_cell.result c.value.result _ c.len.ensures.count c.front_cell.ensures c.if-len-eq0.false refl in
     ap Some c.value.ensures ∙ p.answer
 
 pub returns-then-len-eq0 : goal.returns-then-len-eq0

@@ -8,11 +8,11 @@ returns g c =
     let r = c.args.self.now in
     record {
       answer = rw (← c.len-count.ensures.count) (search rules);
-      cells = ap (λ k. set r.cells.now k c.args.x) c.back-cell-at.ensures.cell;
-      head = c.front-cell-head.ensures;
+      cells = ap (λ k. set r.cells.now k c.args.x) c.back_cell-at.ensures.cell;
+      head = c.front_cell-head.ensures;
       count = ap (λ m. m + 1) c.len-count.ensures.count;
       area = refl;
       same = λ z. let y : ◌≡◌ {A = ℕ} 0 1 = cc in absurd (omega arith);
       places = length-set _ _ _;
-      items = ring_pushes r.cells.now r.head r.count c.len-count.result c.len-count.ensures.count c.back-cell-at.result c.front-cell-head.result c.args.x c.front-cell-head.ensures (omega arith) c.back-cell-at.ensures.cell;
+      items = ring_pushes r.cells.now r.head r.count c.len-count.result c.len-count.ensures.count c.back_cell-at.result c.front_cell-head.result c.args.x c.front_cell-head.ensures (omega arith) c.back_cell-at.ensures.cell;
     }
