@@ -14,11 +14,18 @@ some_none (Some v) e = clash true e refl
 eqb_flip : (a b : ℕ) → eqb a b ≡ eqb b a
 eqb_flip a b = split (eqb a b) (λ t. t ∙ sym (eq-eqb b a (sym (eqb-true a b t)))) (λ f. f ∙ sym (ne_eqb b a (λ e. eqb-false a b f (sym e))))
 
+-- what a change answers at a number, with the number that is asked for first
+abbrev altered : {V : Type 0} → (ℕ → Option V) → ℕ → Option V → ℕ → Option V
+altered f n w q = cond (eqb q n) w (f q)
+
+as_changed : {V : Type 0} (f : ℕ → Option V) (n : ℕ) (w : Option V) (q : ℕ) → altered f n w q ≡ changed f n w q
+as_changed f n w q = ap (λ b. cond b w (f q)) (eqb_flip q n)
+
 module _ {L V : Type 0} (num : L → ℕ) where
   -- replaced
-  pub look_replaced : (xs : List (Row L V)) (n : ℕ) (v : V) (q : ℕ) → is_some (look num xs n) ≡ true → look num (replaced num xs n v) q ≡ changed (look num xs) n (Some v) q
-  look_replaced [] n v q h = clash false refl h
-  look_replaced (r ∷ rs) n v q h =
+  replaced_reads : (xs : List (Row L V)) (n : ℕ) (v : V) (q : ℕ) → is_some (look num xs n) ≡ true → look num (replaced num xs n v) q ≡ altered (look num xs) n (Some v) q
+  replaced_reads [] n v q h = clash false refl h
+  replaced_reads (r ∷ rs) n v q h =
       split (holds num r n)
       (λ t. let w : Row L V = record { used = true; label = r.label; payload = v } in
       ap (λ ys. look num ys q) (cond-true (holds num r n) (w ∷ rs) _ t)
@@ -28,7 +35,7 @@ module _ {L V : Type 0} (num : L → ℕ) where
       ∙ sym (look_miss num r rs q (holds_other num r n q t f)) ∙ sym (cond-false (eqb q n) _ _ f)))
       (λ f. let k : is_some (look num rs n) ≡ true = ap is_some (sym (look_miss num r rs n f)) ∙ h in
       ap (λ ys. look num ys q) (cond-false (holds num r n) _ (r ∷ replaced num rs n v) f)
-      ∙ ap (λ z. cond (holds num r q) (Some r.payload) z) (look_replaced rs n v q k)
+      ∙ ap (λ z. cond (holds num r q) (Some r.payload) z) (replaced_reads rs n v q k)
       ∙ split (eqb q n)
       (λ e. let m : holds num r q ≡ false = ap (λ z. holds num r z) (eqb-true q n e) ∙ f in
       cond-false (holds num r q) _ _ m ∙ cond-true (eqb q n) _ _ e ∙ sym (cond-true (eqb q n) _ _ e))
@@ -36,7 +43,7 @@ module _ {L V : Type 0} (num : L → ℕ) where
 
   some_replaced : (xs : List (Row L V)) (n : ℕ) (v : V) (q : ℕ) → is_some (look num xs n) ≡ true → is_some (look num (replaced num xs n v) q) ≡ is_some (look num xs q)
   some_replaced xs n v q h =
-      ap is_some (look_replaced xs n v q h)
+      ap is_some (replaced_reads xs n v q h)
       ∙ split (eqb q n)
       (λ e. ap is_some (cond-true (eqb q n) _ _ e) ∙ sym h ∙ ap (λ z. is_some (look num xs z)) (sym (eqb-true q n e)))
       (λ f. ap is_some (cond-false (eqb q n) _ _ f))
@@ -74,16 +81,16 @@ module _ {L V : Type 0} (num : L → ℕ) where
       (λ u. some_replaced rs n v (num r.label) k ∙ apart_first r rs a u))
 
   -- filled
-  pub look_filled : (xs : List (Row L V)) (l : L) (v : V) (q : ℕ) → is_some (look num xs (num l)) ≡ false → spare xs < length xs → look num (filled xs l v) q ≡ changed (look num xs) (num l) (Some v) q
-  look_filled [] l v q h k = absurd (omega arith)
-  look_filled (r ∷ rs) l v q h k =
+  filled_reads : (xs : List (Row L V)) (l : L) (v : V) (q : ℕ) → is_some (look num xs (num l)) ≡ false → spare xs < length xs → look num (filled xs l v) q ≡ altered (look num xs) (num l) (Some v) q
+  filled_reads [] l v q h k = absurd (omega arith)
+  filled_reads (r ∷ rs) l v q h k =
       split r.used
       (λ t. let e : spare (r ∷ rs) ≡ suc (spare rs) = cond-true r.used _ _ t in
       let k2 : spare rs < length rs = omega arith in
       let f : holds num r (num l) ≡ false = split (holds num r (num l)) (λ y. clash (is_some (look num (r ∷ rs) (num l))) h (ap is_some (look_hit num r rs (num l) y))) (λ f. f) in
       let h2 : is_some (look num rs (num l)) ≡ false = ap is_some (sym (look_miss num r rs (num l) f)) ∙ h in
       ap (λ ys. look num ys q) (cond-true r.used (r ∷ filled rs l v) _ t)
-      ∙ ap (λ z. cond (holds num r q) (Some r.payload) z) (look_filled rs l v q h2 k2)
+      ∙ ap (λ z. cond (holds num r q) (Some r.payload) z) (filled_reads rs l v q h2 k2)
       ∙ split (eqb q (num l))
       (λ e. let m : holds num r q ≡ false = ap (λ z. holds num r z) (eqb-true q (num l) e) ∙ f in
       cond-false (holds num r q) _ _ m ∙ cond-true (eqb q (num l)) _ _ e ∙ sym (cond-true (eqb q (num l)) _ _ e))
@@ -115,9 +122,9 @@ module _ {L V : Type 0} (num : L → ℕ) where
       ap (apart num) (cond-false r.used _ (w ∷ rs) g) ∙ apart_both w rs (apart_rest r rs a) (λ _. h2))
 
   -- cleared
-  pub look_cleared : (xs : List (Row L V)) (n q : ℕ) → apart num xs ≡ true → look num (cleared num xs n) q ≡ changed (look num xs) n None q
-  look_cleared [] n q a = split (eqb q n) (λ e. sym (cond-true (eqb q n) _ _ e)) (λ f. sym (cond-false (eqb q n) _ _ f))
-  look_cleared (r ∷ rs) n q a =
+  cleared_reads : (xs : List (Row L V)) (n q : ℕ) → apart num xs ≡ true → look num (cleared num xs n) q ≡ altered (look num xs) n None q
+  cleared_reads [] n q a = split (eqb q n) (λ e. sym (cond-true (eqb q n) _ _ e)) (λ f. sym (cond-false (eqb q n) _ _ f))
+  cleared_reads (r ∷ rs) n q a =
       split (holds num r n)
       (λ t. ap (λ ys. look num ys q) (cond-true (holds num r n) (unused r ∷ rs) _ t)
       ∙ split (eqb q n)
@@ -125,7 +132,7 @@ module _ {L V : Type 0} (num : L → ℕ) where
       ap (look num rs) (eqb-true q n e ∙ sym (holds_number num r n t)) ∙ z ∙ sym (cond-true (eqb q n) _ _ e))
       (λ f. sym (look_miss num r rs q (holds_other num r n q t f)) ∙ sym (cond-false (eqb q n) _ _ f)))
       (λ f. ap (λ ys. look num ys q) (cond-false (holds num r n) _ (r ∷ cleared num rs n) f)
-      ∙ ap (λ z. cond (holds num r q) (Some r.payload) z) (look_cleared rs n q (apart_rest r rs a))
+      ∙ ap (λ z. cond (holds num r q) (Some r.payload) z) (cleared_reads rs n q (apart_rest r rs a))
       ∙ split (eqb q n)
       (λ e. let m : holds num r q ≡ false = ap (λ z. holds num r z) (eqb-true q n e) ∙ f in
       cond-false (holds num r q) _ _ m ∙ cond-true (eqb q n) _ _ e ∙ sym (cond-true (eqb q n) _ _ e))
@@ -138,7 +145,7 @@ module _ {L V : Type 0} (num : L → ℕ) where
       (λ t. ap (apart num) (cond-true (holds num r n) (unused r ∷ rs) _ t) ∙ apart_rest r rs a)
       (λ f. ap (apart num) (cond-false (holds num r n) _ (r ∷ cleared num rs n) f)
       ∙ apart_both r (cleared num rs n) (apart_cleared rs n (apart_rest r rs a))
-      (λ u. ap is_some (look_cleared rs n (num r.label) (apart_rest r rs a))
+      (λ u. ap is_some (cleared_reads rs n (num r.label) (apart_rest r rs a))
       ∙ split (eqb (num r.label) n)
       (λ e. ap is_some (cond-true (eqb (num r.label) n) _ _ e))
       (λ o. ap is_some (cond-false (eqb (num r.label) n) _ _ o) ∙ apart_first r rs a u)))
@@ -156,3 +163,12 @@ module _ {L V : Type 0} (num : L → ℕ) where
       (λ t. let e : spare (r ∷ rs) ≡ suc (spare rs) = cond-true r.used _ _ t in let k : length rs ≤ spare rs = omega arith in
       cond-true r.used _ _ t ∙ ap (λ ys. r ∷ ys) (filled_none rs l v k))
       (λ f. let e : spare (r ∷ rs) ≡ 0 = cond-false r.used _ _ f in absurd (omega arith))
+
+  pub look_replaced : (xs : List (Row L V)) (n : ℕ) (v : V) (q : ℕ) → is_some (look num xs n) ≡ true → look num (replaced num xs n v) q ≡ changed (look num xs) n (Some v) q
+  look_replaced xs n v q h = replaced_reads xs n v q h ∙ as_changed (look num xs) n (Some v) q
+
+  pub look_filled : (xs : List (Row L V)) (l : L) (v : V) (q : ℕ) → is_some (look num xs (num l)) ≡ false → spare xs < length xs → look num (filled xs l v) q ≡ changed (look num xs) (num l) (Some v) q
+  look_filled xs l v q h k = filled_reads xs l v q h k ∙ as_changed (look num xs) (num l) (Some v) q
+
+  pub look_cleared : (xs : List (Row L V)) (n q : ℕ) → apart num xs ≡ true → look num (cleared num xs n) q ≡ changed (look num xs) n None q
+  look_cleared xs n q a = cleared_reads xs n q a ∙ as_changed (look num xs) n None q

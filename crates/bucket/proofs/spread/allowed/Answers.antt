@@ -9,12 +9,12 @@ both : (b : ℕ) (p : Bool) → p ≡ eqb (ones b) 1 → p && leb b 4096 ≡ all
 unfolding allowed_size
 both b p e = ap (λ z. z && leb b 4096) e
 
-pub returns-then-has-one-bit : goal.returns-then-has-one-bit
-returns-then-has-one-bit c =
-    let e = ap (λ z. z && leb c.args.size 4096) (sym c.if-has-one-bit.true) ∙ both c.args.size c.has-one-bit.result c.has-one-bit.ensures in
+pub returns-then-has_one_bit : goal.returns-then-has_one_bit
+returns-then-has_one_bit c =
+    let e = ap (λ z. z && leb c.args.size 4096) (sym c.if-has_one_bit.true) ∙ both c.args.size c.has_one_bit.result c.has_one_bit.ensures in
     record { test = e; power = decides_allowed c.args.size (leb c.args.size 4096) e }
 
-pub returns-else-has-one-bit : goal.returns-else-has-one-bit
-returns-else-has-one-bit c =
-    let e = c.if-has-one-bit.false ∙ sym (ap (λ z. z && leb c.args.size 4096) c.if-has-one-bit.false) ∙ both c.args.size c.has-one-bit.result c.has-one-bit.ensures in
-    record { test = e; power = decides_allowed c.args.size c.has-one-bit.result e }
+pub returns-else-has_one_bit : goal.returns-else-has_one_bit
+returns-else-has_one_bit c =
+    let e = c.if-has_one_bit.false ∙ sym (ap (λ z. z && leb c.args.size 4096) c.if-has_one_bit.false) ∙ both c.args.size c.has_one_bit.result c.has_one_bit.ensures in
+    record { test = e; power = decides_allowed c.args.size c.has_one_bit.result e }

@@ -8,6 +8,6 @@ returns c =
     let pair = masked_pair c.args.digest c.args.size c.requires in
     let below = masked_below c.args.digest c.args.size c.requires in
     record {
-      pair = (c.low-bits.ensures ∙ pair.0, c.low-bits-2.ensures ∙ pair.1);
-      within = (subst (λ z. z < c.args.size) (sym c.low-bits.ensures) below.0, subst (λ z. z < c.args.size) (sym c.low-bits-2.ensures) below.1);
+      pair = (c.low_bits.ensures ∙ pair.0, c.low_bits-2.ensures ∙ pair.1);
+      within = (subst (λ z. z < c.args.size) (sym c.low_bits.ensures) below.0, subst (λ z. z < c.args.size) (sym c.low_bits-2.ensures) below.1);
     }

@@ -9,8 +9,8 @@ use Rattle.bucket_map.proofs.area.prepare.Goals as goal
 pub returns-then-allowed : goal.returns-then-allowed
 returns-then-allowed g c =
     let bs = c.args.buckets.now in
-    let es = c.clear-all.new.buckets in
-    let area : es ≡ made bs = c.clear-all.ensures ∙ sym (cond-true (allowed_size (length bs)) (fresh bs) bs (sym c.allowed.ensures.test ∙ c.if-allowed.true)) in
+    let es = c.clear_all.new.buckets in
+    let area : es ≡ made bs = c.clear_all.ensures ∙ sym (cond-true (allowed_size (length bs)) (fresh bs) bs (sym c.allowed.ensures.test ∙ c.if-allowed.true)) in
     record { area = area; kept = made_kept g.L.Label bs es area; empty = made_empty g.L.Label bs es area; shape = made_shape g.L.Label bs es area }
 
 pub returns-else-allowed : goal.returns-else-allowed

@@ -23,9 +23,9 @@ loop-i-preserved g c =
     let bs = c.args.buckets.now in
     let x = c.index-buckets-i.result in
     let left = tally_more g.L.Label bs c.loop-i.i (c.loop-i.i + 1) x c.loop-i-test.true (omega arith) in
-    let here : c.used-slots-total.result ≡ busy (get_or bs c.loop-i.i x) = c.used-slots-total.ensures.value ∙ ap busy c.index-buckets-i.is in (
-      add c.loop-i.total c.used-slots-total.result (busy (get_or bs c.loop-i.i x)) (length (labels g.L.Label (drop c.loop-i.i bs))) (length (labels g.L.Label (drop (c.loop-i.i + 1) bs))) (length (labels g.L.Label bs)) c.loop-i.invariant.0 left here,
-      more c.loop-i.total c.used-slots-total.result c.loop-i.i c.loop-i.invariant.1 c.used-slots-total.ensures.few,
+    let here : c.used_slots-total.result ≡ busy (get_or bs c.loop-i.i x) = c.used_slots-total.ensures.value ∙ ap busy c.index-buckets-i.is in (
+      add c.loop-i.total c.used_slots-total.result (busy (get_or bs c.loop-i.i x)) (length (labels g.L.Label (drop c.loop-i.i bs))) (length (labels g.L.Label (drop (c.loop-i.i + 1) bs))) (length (labels g.L.Label bs)) c.loop-i.invariant.0 left here,
+      more c.loop-i.total c.used_slots-total.result c.loop-i.i c.loop-i.invariant.1 c.used_slots-total.ensures.few,
     )
   where
     add : (t r b x y k : ℕ) → t + x ≡ k → x ≡ b + y → r ≡ b → (t + r) + y ≡ k
@@ -38,7 +38,7 @@ pub overflow-add-total : goal.overflow-add-total
 overflow-add-total g c =
     let most = allowed_most (length c.args.buckets.now) (c.allowed.ensures.power.0 c.if-not-allowed.false) in
     let a = c.loop-i.invariant.1 in
-    let b = c.used-slots-total.ensures.few in
+    let b = c.used_slots-total.ensures.few in
     let h = c.loop-i-test.true in
     omega arith
 

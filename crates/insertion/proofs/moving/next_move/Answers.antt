@@ -6,18 +6,18 @@ use Rattle.marks.proofs.Same.{same_marked}
 use Rattle.insertion.proofs.Walks.{place_in, bucket_in, parent_lt, parent_in, from_in, same_marks, walk_on, follow_on}
 use Rattle.insertion.proofs.moving.next_move.Goals as goal
 
-pub place-at-place-requires : goal.place-at-place-requires
-place-at-place-requires g c = place_in g.L.Label c.args.buckets.now c.args.plan c.requires.walk
+pub place_at-place-requires : goal.place_at-place-requires
+place_at-place-requires g c = place_in g.L.Label c.args.buckets.now c.args.plan c.requires.walk
 
-pub place-at-from-requires : goal.place-at-from-requires
-place-at-from-requires g c = parent_in g.L.Label c.args.buckets.now c.args.plan c.requires.walk c.requires.more c.place-at-place.result c.place-at-place.ensures.parent
+pub place_at-from-requires : goal.place_at-from-requires
+place_at-from-requires g c = parent_in g.L.Label c.args.buckets.now c.args.plan c.requires.walk c.requires.more c.place_at-place.result c.place_at-place.ensures.parent
 
 pub relocate-requires : goal.relocate-requires
 relocate-requires g c =
     record {
       right = c.requires.right;
       within = (
-        from_in g.L.Label c.args.buckets.now c.args.plan c.requires.walk c.requires.more c.place-at-place.result c.place-at-place.ensures.parent c.place-at-from.result.bucket c.place-at-from.ensures.bucket,
+        from_in g.L.Label c.args.buckets.now c.args.plan c.requires.walk c.requires.more c.place_at-place.result c.place_at-place.ensures.parent c.place_at-from.result.bucket c.place_at-from.ensures.bucket,
         bucket_in g.L.Label c.args.buckets.now c.args.plan c.requires.walk,
       );
     }
@@ -32,14 +32,14 @@ returns g c =
     let kind = g.L.Label in
     let ms = c.args.buckets.now in
     let plan = c.args.plan in
-    let place = c.place-at-place.result in
-    let up = c.place-at-place.ensures.parent in
-    let from = c.place-at-from.ensures.bucket in
+    let place = c.place_at-place.result in
+    let up = c.place_at-place.ensures.parent in
+    let from = c.place_at-from.ensures.bucket in
     let after = c.relocate.new.buckets in
     record {
-      walk = walk_on kind ms plan c.requires.walk c.requires.more place up c.place-at-from.result.bucket from c.place-at-place.ensures.slot after c.relocate.ensures.area;
+      walk = walk_on kind ms plan c.requires.walk c.requires.more place up c.place_at-from.result.bucket from c.place_at-place.ensures.slot after c.relocate.ensures.area;
       same = (refl, refl);
       back = parent_lt kind ms plan c.requires.walk c.requires.more place up;
-      marks = λ n. same_marked ms after (same_marks kind ms plan c.requires.walk c.requires.more place up c.place-at-from.result.bucket from c.place-at-place.ensures.slot after c.relocate.ensures.area) n;
-      follows = follow_on kind ms plan c.requires.walk c.requires.more place up c.place-at-from.result.bucket from c.place-at-place.ensures.slot after c.relocate.ensures.area;
+      marks = λ n. same_marked ms after (same_marks kind ms plan c.requires.walk c.requires.more place up c.place_at-from.result.bucket from c.place_at-place.ensures.slot after c.relocate.ensures.area) n;
+      follows = follow_on kind ms plan c.requires.walk c.requires.more place up c.place_at-from.result.bucket from c.place_at-place.ensures.slot after c.relocate.ensures.area;
     }

@@ -14,8 +14,8 @@ returns-in-Some g c =
       (c.locate-spot.result.1, subst (λ o. Looks g.L.Label bs (g.L.Label.number c.args.label) o c.locate-spot.result.1) c.in-Some.is c.locate-spot.ensures.rule),
     )
 
-pub place-at-requires : goal.place-at-requires
-place-at-requires g c =
+pub place_at-requires : goal.place_at-requires
+place_at-requires g c =
     listed_below c.search-outcome.new.buckets c.search-outcome.result.count c.in-Some-end.end.place c.search-outcome.ensures.listed
     (subst (λ o. IfSome o (λ e. (e.place < c.search-outcome.result.count) × (0 < c.search-outcome.result.starts))) c.in-Some-end.is c.search-outcome.ensures.end).0
 
@@ -27,11 +27,11 @@ returns-in-Some-end g c =
     let n = kind.number c.args.label in
     let out = c.search-outcome.result in
     let end = c.in-Some-end.end in (
-      plan_walk kind bs ms n c.digest.result c.pair-first.result.0 c.pair-first.result.1 c.digest.ensures c.pair-first.ensures.pair.0 c.pair-first.ensures.pair.1 out.starts out.count end c.place-at.result.bucket c.place-at.ensures.bucket
+      plan_walk kind bs ms n c.digest.result c.pair-first.result.0 c.pair-first.result.1 c.digest.ensures c.pair-first.ensures.pair.0 c.pair-first.ensures.pair.1 out.starts out.count end c.place_at.result.bucket c.place_at.ensures.bucket
           c.search-outcome.ensures.listed (subst (λ o. IfSome o (λ e. (e.place < out.count) × (0 < out.starts))) c.in-Some-end.is c.search-outcome.ensures.end),
-      λ rest. plan_made kind bs ms n c.digest.result c.pair-first.result.0 c.pair-first.result.1 c.digest.ensures c.pair-first.ensures.pair.0 c.pair-first.ensures.pair.1 out.starts out.count end c.place-at.result.bucket c.place-at.ensures.bucket
+      λ rest. plan_made kind bs ms n c.digest.result c.pair-first.result.0 c.pair-first.result.1 c.digest.ensures c.pair-first.ensures.pair.0 c.pair-first.ensures.pair.1 out.starts out.count end c.place_at.result.bucket c.place_at.ensures.bucket
           (subst (Ended kind bs c.pair-first.result.0 c.pair-first.result.1 ms out.starts out.count) c.in-Some-end.is (c.search-outcome.ensures.search rest)),
-      (c.locate-spot.result.1, subst (λ o. Looks kind bs n o c.locate-spot.result.1) c.in-default.is c.locate-spot.ensures.rule),
+      (c.locate-spot.result.1, subst (λ o. Looks kind bs n o c.locate-spot.result.1) c.in_default.is c.locate-spot.ensures.rule),
     )
 
 pub blank-requires : goal.blank-requires
@@ -49,5 +49,5 @@ returns-in-None g c =
             c.blank.ensures end.marked ∙ end.same,
             used_up_list kind bs ms n c.digest.result c.pair-first.result.0 c.pair-first.result.1 c.digest.ensures c.pair-first.ensures.pair.0 c.pair-first.ensures.pair.1 out.starts out.count end,
           ),
-      (c.locate-spot.result.1, subst (λ o. Looks kind bs n o c.locate-spot.result.1) c.in-default.is c.locate-spot.ensures.rule),
+      (c.locate-spot.result.1, subst (λ o. Looks kind bs n o c.locate-spot.result.1) c.in_default.is c.locate-spot.ensures.rule),
     )

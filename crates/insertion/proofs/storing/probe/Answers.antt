@@ -33,4 +33,4 @@ returns-in-Ready g c = λ kept.
     let bs = c.args.buckets.now in
     let right = sym c.allowed.ensures.test ∙ c.if-not-allowed.false in
     let told = c.in-Ready.ensures in
-    ask_ready kind bs c.args.label right kept told.2.0 told.2.1 c.prospect-of.new.buckets c.in-Ready.plan told.0 (told.1 (at_rest kind bs c.args.label right kept)) c.blank.new.buckets c.blank.ensures
+    ask_ready kind bs c.args.label right kept told.2.0 told.2.1 c.prospect_of.new.buckets c.in-Ready.plan told.0 (told.1 (at_rest kind bs c.args.label right kept)) c.blank.new.buckets c.blank.ensures

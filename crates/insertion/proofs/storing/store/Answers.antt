@@ -16,19 +16,19 @@ returns-then-not-allowed g c = put_wrong g.L.Label c.args.buckets.now c.args.lab
 pub repay-requires : goal.repay-requires
 repay-requires g c = subst (λ z. c.in-Held.x.bucket < length z) (sym c.in-Held.ensures.0) c.in-Held.ensures.1
 
-pub make-moves-end-requires : goal.make-moves-end-requires
-make-moves-end-requires g c =
-    record { right = subst Allowed (sym c.prospect-of.auto.buckets) (c.allowed.ensures.power.0 c.if-not-allowed.false); walk = c.in-Ready.ensures.0 }
+pub make_moves-end-requires : goal.make_moves-end-requires
+make_moves-end-requires g c =
+    record { right = subst Allowed (sym c.prospect_of.auto.buckets) (c.allowed.ensures.power.0 c.if-not-allowed.false); walk = c.in-Ready.ensures.0 }
 
 pub blank-requires : goal.blank-requires
-blank-requires g c = c.make-moves-end.ensures.walk.listed
+blank-requires g c = c.make_moves-end.ensures.walk.listed
 
 pub occupy-requires : goal.occupy-requires
 occupy-requires g c =
-    let long : length c.blank.new.buckets ≡ length c.make-moves-end.new.buckets = c.blank.auto.buckets in
+    let long : length c.blank.new.buckets ≡ length c.make_moves-end.new.buckets = c.blank.auto.buckets in
     record {
-      right = subst Allowed (sym (long ∙ c.make-moves-end.auto.buckets ∙ c.prospect-of.auto.buckets)) (c.allowed.ensures.power.0 c.if-not-allowed.false);
-      within = subst (λ z. c.make-moves-end.result.bucket < z) (sym long) (bucket_in g.L.Label c.make-moves-end.new.buckets c.make-moves-end.result c.make-moves-end.ensures.walk);
+      right = subst Allowed (sym (long ∙ c.make_moves-end.auto.buckets ∙ c.prospect_of.auto.buckets)) (c.allowed.ensures.power.0 c.if-not-allowed.false);
+      within = subst (λ z. c.make_moves-end.result.bucket < z) (sym long) (bucket_in g.L.Label c.make_moves-end.new.buckets c.make_moves-end.result c.make_moves-end.ensures.walk);
     }
 
 pub returns-in-Held : goal.returns-in-Held
@@ -59,12 +59,12 @@ returns-in-Ready g c = λ kept.
     let right = sym c.allowed.ensures.test ∙ c.if-not-allowed.false in
     let told = c.in-Ready.ensures in
     let plan = c.in-Ready.plan in
-    let ms = c.prospect-of.new.buckets in
+    let ms = c.prospect_of.new.buckets in
     let planned = told.1 (at_rest kind bs c.args.label right kept) in
-    let end = c.make-moves-end.result in
+    let end = c.make_moves-end.result in
     put_added kind bs c.args.label right kept told.2.0 told.2.1 ms plan told.0 planned c.args.payload
-    c.make-moves-end.new.buckets c.blank.new.buckets c.occupy.new.buckets end
-    (c.make-moves-end.ensures.follows _ bs plan.place plan.slot (follows_start kind bs c.args.label right kept told.2.0 told.2.1 ms plan told.0 planned))
-    c.make-moves-end.ensures.home c.make-moves-end.ensures.walk.bucket
-    (c.blank.ensures (subst (Marked c.make-moves-end.new.buckets) (sym c.make-moves-end.ensures.count) (c.make-moves-end.ensures.marks plan.count planned.search.marked)))
+    c.make_moves-end.new.buckets c.blank.new.buckets c.occupy.new.buckets end
+    (c.make_moves-end.ensures.follows _ bs plan.place plan.slot (follows_start kind bs c.args.label right kept told.2.0 told.2.1 ms plan told.0 planned))
+    c.make_moves-end.ensures.home c.make_moves-end.ensures.walk.bucket
+    (c.blank.ensures (subst (Marked c.make_moves-end.new.buckets) (sym c.make_moves-end.ensures.count) (c.make_moves-end.ensures.marks plan.count planned.search.marked)))
     c.occupy.ensures

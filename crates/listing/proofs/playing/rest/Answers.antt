@@ -12,15 +12,15 @@ loop-reading-preserved g c =
     let inv = c.loop-reading.invariant in
     let rs = inv.1.0 in
     let r = c.in-Some.reading in (
-      c.next-call.ensures.tape ∙ inv.0,
+      c.next_call.ensures.tape ∙ inv.0,
       (
         rs ++ r ∷ [],
         reads_more _ _ _ _ _ _ _ inv.0 inv.1.1 c.in-Some.ensures.step,
-        rw c.in-ok-push.ensures.items (plays_more g.B.Map g.S.Map _ _ _ rs _ inv.1.2 r c.list.result c.list.ensures),
+        rw c.in_ok-push.ensures.items (plays_more g.B.Map g.S.Map _ _ _ rs _ inv.1.2 r c.list.result c.list.ensures),
       ),
     )
 
 pub returns : goal.returns
 returns g c =
     let inv = c.loop-reading.invariant in
-    (inv.1.0, reads_all _ _ _ _ _ _ inv.0 inv.1.1 c.in-default.ensures.step, inv.1.2)
+    (inv.1.0, reads_all _ _ _ _ _ _ inv.0 inv.1.1 c.in_default.ensures.step, inv.1.2)

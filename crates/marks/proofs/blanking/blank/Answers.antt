@@ -6,23 +6,23 @@ use Rattle.marks.proofs.blanking.blank.Goals as goal
 pub loop-j-init : goal.loop-j-init
 loop-j-init g c = wiped_none c.args.buckets.now c.args.count
 
-pub place-at-place-requires : goal.place-at-place-requires
-place-at-place-requires g c = wiped_place c.args.buckets.now c.loop-j.buckets c.args.count c.loop-j.j c.requires c.loop-j.invariant (omega arith)
+pub place_at-place-requires : goal.place_at-place-requires
+place_at-place-requires g c = wiped_place c.args.buckets.now c.loop-j.buckets c.args.count c.loop-j.j c.requires c.loop-j.invariant (omega arith)
 
-pub mark-joined-requires : goal.mark-joined-requires
-mark-joined-requires g c =
-    subst (λ z. z < length c.loop-j.buckets) (sym c.place-at-place.ensures.bucket)
+pub mark_joined-requires : goal.mark_joined-requires
+mark_joined-requires g c =
+    subst (λ z. z < length c.loop-j.buckets) (sym c.place_at-place.ensures.bucket)
     (wiped_within c.args.buckets.now c.loop-j.buckets c.args.count c.loop-j.j c.requires c.loop-j.invariant (omega arith))
 
-pub mark-place-requires : goal.mark-place-requires
-mark-place-requires g c =
+pub mark_place-requires : goal.mark_place-requires
+mark_place-requires g c =
     let p = wiped_place c.args.buckets.now c.loop-j.buckets c.args.count c.loop-j.j c.requires c.loop-j.invariant (omega arith) in
-    omega (arith, c.mark-joined.auto.buckets)
+    omega (arith, c.mark_joined.auto.buckets)
 
 pub loop-j-preserved : goal.loop-j-preserved
 loop-j-preserved g c =
     wiped_more c.args.buckets.now c.loop-j.buckets c.args.count c.loop-j.j c.requires c.loop-j.invariant (omega arith)
-    c.place-at-place.result.bucket c.place-at-place.ensures.bucket c.mark-joined.new.buckets c.mark-place.new.buckets c.mark-joined.ensures c.mark-place.ensures
+    c.place_at-place.result.bucket c.place_at-place.ensures.bucket c.mark_joined.new.buckets c.mark_place.new.buckets c.mark_joined.ensures c.mark_place.ensures
 
 pub returns : goal.returns
 returns g c = wiped_all c.args.buckets.now c.loop-j.buckets c.args.count c.loop-j.j (omega arith) c.loop-j.invariant

@@ -7,22 +7,22 @@ use Rattle.marks.specs.Marks.{has_joined}
 use Rattle.marks.proofs.Joining.{count_lt, count_le, join_old, join_new}
 use Rattle.marks.proofs.list.join.Goals as goal
 
-pub returns-then-has-joined : goal.returns-then-has-joined
-returns-then-has-joined g c =
+pub returns-then-has_joined : goal.returns-then-has_joined
+returns-then-has_joined g c =
     let ms = c.args.buckets.now in
     let place = c.args.place in
-    let e = peek_at (λ b. b.mark.joined) false ms place.bucket c.index-buckets-place.result c.requires.within ∙ sym c.has-joined.ensures ∙ c.if-has-joined.true in
+    let e = peek_at (λ b. b.mark.joined) false ms place.bucket c.index-buckets-place.result c.requires.within ∙ sym c.has_joined.ensures ∙ c.if-has_joined.true in
     record {
       area = sym (join_old ms c.args.count place.bucket place.parent place.slot e);
       count = sym (cond-true {A = ℕ} (has_joined ms place.bucket) c.args.count (c.args.count + 1) e);
     }
 
-pub mark-place-requires : goal.mark-place-requires
-mark-place-requires g c =
+pub mark_place-requires : goal.mark_place-requires
+mark_place-requires g c =
     let ms = c.args.buckets.now in
     let place = c.args.place in
-    let e = peek_at (λ b. b.mark.joined) false ms place.bucket c.index-buckets-place.result c.requires.within ∙ sym c.has-joined.ensures ∙ c.if-has-joined.false in
-    omega (arith, c.mark-joined.auto.buckets, count_lt ms place.bucket c.requires.within e, c.requires.room)
+    let e = peek_at (λ b. b.mark.joined) false ms place.bucket c.index-buckets-place.result c.requires.within ∙ sym c.has_joined.ensures ∙ c.if-has_joined.false in
+    omega (arith, c.mark_joined.auto.buckets, count_lt ms place.bucket c.requires.within e, c.requires.room)
 
 pub overflow-add-result : goal.overflow-add-result
 overflow-add-result g c = omega (arith, count_le c.args.buckets.now, c.requires.room, c.requires.small.0)
@@ -31,8 +31,8 @@ pub returns : goal.returns
 returns g c =
     let ms = c.args.buckets.now in
     let place = c.args.place in
-    let e = peek_at (λ b. b.mark.joined) false ms place.bucket c.index-buckets-place.result c.requires.within ∙ sym c.has-joined.ensures ∙ c.if-has-joined.false in
+    let e = peek_at (λ b. b.mark.joined) false ms place.bucket c.index-buckets-place.result c.requires.within ∙ sym c.has_joined.ensures ∙ c.if-has_joined.false in
     record {
-      area = c.mark-place.ensures ∙ ap (λ z. modify (with_place place.bucket place.parent place.slot) z c.args.count) c.mark-joined.ensures ∙ sym (join_new ms c.args.count place.bucket place.parent place.slot e);
+      area = c.mark_place.ensures ∙ ap (λ z. modify (with_place place.bucket place.parent place.slot) z c.args.count) c.mark_joined.ensures ∙ sym (join_new ms c.args.count place.bucket place.parent place.slot e);
       count = sym (cond-false {A = ℕ} (has_joined ms place.bucket) c.args.count (c.args.count + 1) e);
     }

@@ -9,7 +9,7 @@ returns g c =
     let j = c.args.j in
     let x = c.index-buckets-j.result in
     record {
-      bucket = c.place-marks.ensures.bucket ∙ sym (peek_read (λ b. b.mark.bucket) 0 bs j x c.requires c.index-buckets-j.is);
-      parent = c.place-marks.ensures.parent ∙ sym (peek_read (λ b. b.mark.parent) 0 bs j x c.requires c.index-buckets-j.is);
-      slot = c.place-marks.ensures.slot ∙ sym (peek_read (λ b. b.mark.slot) 0 bs j x c.requires c.index-buckets-j.is);
+      bucket = c.place_marks.ensures.bucket ∙ sym (peek_read (λ b. b.mark.bucket) 0 bs j x c.requires c.index-buckets-j.is);
+      parent = c.place_marks.ensures.parent ∙ sym (peek_read (λ b. b.mark.parent) 0 bs j x c.requires c.index-buckets-j.is);
+      slot = c.place_marks.ensures.slot ∙ sym (peek_read (λ b. b.mark.slot) 0 bs j x c.requires c.index-buckets-j.is);
     }

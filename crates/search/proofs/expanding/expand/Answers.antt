@@ -8,11 +8,11 @@ use Rattle.search.specs.Reached.{Searching, FullAt}
 use Rattle.search.proofs.Steps.{follow_listed, follow_more, follow_bucket, follow_search}
 use Rattle.search.proofs.expanding.expand.Goals as goal
 
-pub place-at-bucket-requires : goal.place-at-bucket-requires
-place-at-bucket-requires g c = listed_below c.args.buckets.now c.args.count c.args.head c.requires.listed c.requires.within
+pub place_at-bucket-requires : goal.place_at-bucket-requires
+place_at-bucket-requires g c = listed_below c.args.buckets.now c.args.count c.args.head c.requires.listed c.requires.within
 
 pub loop-k-init : goal.loop-k-init
-loop-k-init g c = (c.requires.listed, omega arith, c.place-at-bucket.ensures.bucket, λ bs p s st w full. w)
+loop-k-init g c = (c.requires.listed, omega arith, c.place_at-bucket.ensures.bucket, λ bs p s st w full. w)
 
 pub other-next-requires : goal.other-next-requires
 other-next-requires g c =
@@ -33,10 +33,10 @@ pub loop-k-preserved : goal.loop-k-preserved
 loop-k-preserved g c =
     let here : c.args.head < c.loop-k.n = omega (arith, c.loop-k.invariant.1, c.requires.within) in
     let inv = c.loop-k.invariant in (
-      follow_listed g.L.Label c.loop-k.buckets c.loop-k.n c.args.head c.loop-k.k c.place-at-bucket.result.bucket c.other-next.result inv.0 here inv.2 c.loop-k-test.true c.other-next.ensures.within c.other-next.ensures.value c.join-n.new.buckets c.join-n.result c.join-n.ensures.area c.join-n.ensures.count,
-      omega (arith, inv.1, follow_more g.L.Label c.loop-k.buckets c.loop-k.n c.args.head c.loop-k.k c.place-at-bucket.result.bucket c.other-next.result inv.0 here inv.2 c.loop-k-test.true c.other-next.ensures.within c.other-next.ensures.value c.join-n.new.buckets c.join-n.result c.join-n.ensures.area c.join-n.ensures.count),
-      follow_bucket g.L.Label c.loop-k.buckets c.loop-k.n c.args.head c.loop-k.k c.place-at-bucket.result.bucket c.other-next.result inv.0 here inv.2 c.loop-k-test.true c.other-next.ensures.within c.other-next.ensures.value c.join-n.new.buckets c.join-n.result c.join-n.ensures.area c.join-n.ensures.count,
-      λ bs p s st w full. follow_search g.L.Label c.loop-k.buckets c.loop-k.n c.args.head c.loop-k.k c.place-at-bucket.result.bucket c.other-next.result inv.0 here inv.2 c.loop-k-test.true c.other-next.ensures.within c.other-next.ensures.value c.join-n.new.buckets c.join-n.result c.join-n.ensures.area c.join-n.ensures.count
+      follow_listed g.L.Label c.loop-k.buckets c.loop-k.n c.args.head c.loop-k.k c.place_at-bucket.result.bucket c.other-next.result inv.0 here inv.2 c.loop-k-test.true c.other-next.ensures.within c.other-next.ensures.value c.join-n.new.buckets c.join-n.result c.join-n.ensures.area c.join-n.ensures.count,
+      omega (arith, inv.1, follow_more g.L.Label c.loop-k.buckets c.loop-k.n c.args.head c.loop-k.k c.place_at-bucket.result.bucket c.other-next.result inv.0 here inv.2 c.loop-k-test.true c.other-next.ensures.within c.other-next.ensures.value c.join-n.new.buckets c.join-n.result c.join-n.ensures.area c.join-n.ensures.count),
+      follow_bucket g.L.Label c.loop-k.buckets c.loop-k.n c.args.head c.loop-k.k c.place_at-bucket.result.bucket c.other-next.result inv.0 here inv.2 c.loop-k-test.true c.other-next.ensures.within c.other-next.ensures.value c.join-n.new.buckets c.join-n.result c.join-n.ensures.area c.join-n.ensures.count,
+      λ bs p s st w full. follow_search g.L.Label c.loop-k.buckets c.loop-k.n c.args.head c.loop-k.k c.place_at-bucket.result.bucket c.other-next.result inv.0 here inv.2 c.loop-k-test.true c.other-next.ensures.within c.other-next.ensures.value c.join-n.new.buckets c.join-n.result c.join-n.ensures.area c.join-n.ensures.count
           bs p s st (inv.3 bs p s st w full) full,
     )
 
@@ -46,7 +46,7 @@ returns g c =
     record {
       listed = c.loop-k.invariant.0;
       more = c.loop-k.invariant.1;
-      head = sym c.place-at-bucket.ensures.bucket ∙ c.loop-k.invariant.2;
+      head = sym c.place_at-bucket.ensures.bucket ∙ c.loop-k.invariant.2;
       search = λ bs p s st w full. subst (Searching g.L.Label bs p s c.loop-k.buckets st c.loop-k.n c.args.head) four
-          (c.loop-k.invariant.3 bs p s st w (subst (FullAt bs) (sym c.place-at-bucket.ensures.bucket) full));
+          (c.loop-k.invariant.3 bs p s st w (subst (FullAt bs) (sym c.place_at-bucket.ensures.bucket) full));
     }

@@ -10,12 +10,12 @@ use Rattle.search.proofs.searching.reach.Goals as goal
 pub loop-head-init : goal.loop-head-init
 loop-head-init g c = (c.requires.listed, omega arith, λ e. e, λ bs p s w. w)
 
-pub place-at-place-requires : goal.place-at-place-requires
-place-at-place-requires g c = listed_below c.loop-head.buckets c.loop-head.count c.loop-head.head c.loop-head.invariant.0 c.loop-head-test.true
+pub place_at-place-requires : goal.place_at-place-requires
+place_at-place-requires g c = listed_below c.loop-head.buckets c.loop-head.count c.loop-head.head c.loop-head.invariant.0 c.loop-head-test.true
 
-pub vacancy-at-requires : goal.vacancy-at-requires
-vacancy-at-requires g c =
-    subst (λ z. z < length c.loop-head.buckets) (sym c.place-at-place.ensures.bucket) (c.loop-head.invariant.0.within c.loop-head.head c.loop-head-test.true)
+pub vacancy_at-requires : goal.vacancy_at-requires
+vacancy_at-requires g c =
+    subst (λ z. z < length c.loop-head.buckets) (sym c.place_at-place.ensures.bucket) (c.loop-head.invariant.0.within c.loop-head.head c.loop-head-test.true)
 
 pub returns-in-Some : goal.returns-in-Some
 returns-in-Some g c =
@@ -29,7 +29,7 @@ returns-in-Some g c =
             on,
             here,
             same_lowest c.loop-head.buckets bs on.same (bucket_at c.loop-head.buckets c.loop-head.head) c.in-Some.slot
-                (subst (λ z. LowestAt c.loop-head.buckets z c.in-Some.slot) c.place-at-place.ensures.bucket c.in-Some.ensures),
+                (subst (λ z. LowestAt c.loop-head.buckets z c.in-Some.slot) c.place_at-place.ensures.bucket c.in-Some.ensures),
           );
     }
   where
@@ -50,7 +50,7 @@ loop-head-preserved g c =
       λ e. let z = c.loop-head.invariant.2 e in absurd (omega arith),
       λ bs p s w.
           let on = c.loop-head.invariant.3 bs p s w in
-          let full : FullAt bs (bucket_at c.loop-head.buckets c.loop-head.head) = same_full c.loop-head.buckets bs on.same (bucket_at c.loop-head.buckets c.loop-head.head) (subst (FullAt c.loop-head.buckets) c.place-at-place.ensures.bucket c.in-default.ensures) in
+          let full : FullAt bs (bucket_at c.loop-head.buckets c.loop-head.head) = same_full c.loop-head.buckets bs on.same (bucket_at c.loop-head.buckets c.loop-head.head) (subst (FullAt c.loop-head.buckets) c.place_at-place.ensures.bucket c.in_default.ensures) in
           let out = c.expand-count.ensures.search bs p s c.args.starts on full in
           searching_next g.L.Label bs p s c.expand-count.new.buckets c.args.starts c.expand-count.result c.loop-head.head (bucket_at c.loop-head.buckets c.loop-head.head) c.expand-count.ensures.head full out,
     )

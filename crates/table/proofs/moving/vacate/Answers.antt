@@ -7,7 +7,7 @@ returns-then-first-i g c =
     let bs = c.args.buckets.now in
     record {
       slot = slot_read bs c.args.i c.args.k c.index-buckets-i.result c.slot-slot.result c.requires.within c.slot-slot.ensures;
-      area = vacated_two bs c.args.i c.args.k g.L.Label c.slot-slot.result.label c.digest.result c.pair-first.result.0 c.digest.ensures c.pair-first.ensures.pair.0 c.index-buckets-i-2.result c.free.new.self c.free.ensures c.index-buckets-first.result c.move-back.new.self c.move-back.ensures c.if-first-i.true;
+      area = vacated_two bs c.args.i c.args.k g.L.Label c.slot-slot.result.label c.digest.result c.pair-first.result.0 c.digest.ensures c.pair-first.ensures.pair.0 c.index-buckets-i-2.result c.free.new.self c.free.ensures c.index-buckets-first.result c.move_back.new.self c.move_back.ensures c.if-first-i.true;
     }
 
 pub returns-else-first-i : goal.returns-else-first-i

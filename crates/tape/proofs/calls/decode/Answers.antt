@@ -6,7 +6,7 @@ use Rattle.tape.proofs.calls.decode.Goals as goal
 pub returns : goal.returns
 returns c =
     record {
-      answer = c.call-of.ensures;
-      meaning = rw c.call-of.ensures (decodes c.args.tag c.args.contents.now (λ j. omega (arith, c.type-inv.contents j)));
+      answer = c.call_of.ensures;
+      meaning = rw c.call_of.ensures (decodes c.args.tag c.args.contents.now (λ j. omega (arith, c.type_inv.contents j)));
       own = own_field;
     }

@@ -16,9 +16,9 @@ returns g c =
       step = λ h lived.
           let seen = c.find-entry.ensures lived.blocks_kept in
           ended_lives bm sm h s _ lived c.args.ending n b
-          (grant_ended bm sm s n _ c.of-label.ensures _ _ seen c.args.ending b c.in-Some-advance.turn _ _ _ _ _ _ turns (c.store.ensures seen.kept) c.release.ensures c.condemn.ensures.cells c.condemn.ensures.area c.saturating-sub-self.ensures c.count-lost-self.ensures);
+          (grant_ended bm sm s n _ c.of-label.ensures _ _ seen c.args.ending b c.in-Some-advance.turn _ _ _ _ _ _ turns (c.store.ensures seen.kept) c.release.ensures c.condemn.ensures.cells c.condemn.ensures.area c.saturating_sub-self.ensures c.count_lost-self.ensures);
       leaves = λ kept.
           let seen = c.find-entry.ensures kept in
-          (refl, grant_ended bm sm s n _ c.of-label.ensures _ _ seen c.args.ending b c.in-Some-advance.turn _ _ _ _ _ _ turns (c.store.ensures seen.kept) c.release.ensures c.condemn.ensures.cells c.condemn.ensures.area c.saturating-sub-self.ensures c.count-lost-self.ensures);
+          (refl, grant_ended bm sm s n _ c.of-label.ensures _ _ seen c.args.ending b c.in-Some-advance.turn _ _ _ _ _ _ turns (c.store.ensures seen.kept) c.release.ensures c.condemn.ensures.cells c.condemn.ensures.area c.saturating_sub-self.ensures c.count_lost-self.ensures);
       faulty = search rules;
     }

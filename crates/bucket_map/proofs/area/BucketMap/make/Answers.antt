@@ -9,8 +9,8 @@ returns-in-Put g c = λ kept.
     let kind = g.L.Label in
     let bs = c.args.self.now.buckets.now in
     let es = c.put.new.self.buckets.now in
-    subst (λ z. Changes kind bs es z c.is-full.result) (sym c.in-Put.is)
-    (subst (Changes kind bs es _) (sym c.is-full.ensures) (put_changes kind bs es c.in-Put.label c.in-Put.payload c.put.result kept (c.put.ensures.put kept)))
+    subst (λ z. Changes kind bs es z c.is_full.result) (sym c.in-Put.is)
+    (subst (Changes kind bs es _) (sym c.is_full.ensures) (put_changes kind bs es c.in-Put.label c.in-Put.payload c.put.result kept (c.put.ensures.put kept)))
 
 pub returns-in-Take : goal.returns-in-Take
 returns-in-Take g c = λ kept.

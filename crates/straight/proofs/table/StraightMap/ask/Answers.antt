@@ -9,11 +9,11 @@ returns-then-seek-rows g c =
     let num = g.L.Label.number in
     let rows = c.args.self.now.rows.now in
     lt-ltb c.seek.result (length rows) c.if-seek-rows.true
-    ∙ ask_held num rows c.if-rows-gt-MOST-ROWS.false (num c.args.label) c.seek.result c.seek.ensures c.if-seek-rows.true
+    ∙ ask_held num rows c.if-rows-gt-MOST_ROWS.false (num c.args.label) c.seek.result c.seek.ensures c.if-seek-rows.true
 
 pub returns-else-seek-rows : goal.returns-else-seek-rows
 returns-else-seek-rows g c =
     let num = g.L.Label.number in
     let rows = c.args.self.now.rows.now in
     ap (λ n. ltb n (length rows)) c.vacant.ensures
-    ∙ ask_new num rows c.if-rows-gt-MOST-ROWS.false (num c.args.label) c.seek.result c.seek.ensures c.if-seek-rows.false
+    ∙ ask_new num rows c.if-rows-gt-MOST_ROWS.false (num c.args.label) c.seek.result c.seek.ensures c.if-seek-rows.false

@@ -8,14 +8,14 @@ pub returns-then-i-n : goal.returns-then-i-n
 returns-then-i-n g c =
     let num = g.L.Label.number in
     let rows = c.args.self.now.rows.now in
-    let area = take_held num rows c.if-n-gt-MOST-ROWS.false (num c.args.label) c.place-of-i.result c.place-of-i.ensures
+    let area = take_held num rows c.if-n-gt-MOST_ROWS.false (num c.args.label) c.place_of-i.result c.place_of-i.ensures
     c.cleared.result c.index-self-i.result c.index-self-i-then-i-n.result c.cleared.ensures c.if-i-n.true in
     record {
       area = area;
       lender = refl {a = c.args.self.now.rows.ghost_name};
       kept = take_kept num rows _ (num c.args.label) area;
-      answer = live_found num rows (num c.args.label) c.index-self-i-then-i-n.result c.place-of-i.result c.if-n-gt-MOST-ROWS.false
-          c.place-of-i.ensures c.if-i-n.true;
+      answer = live_found num rows (num c.args.label) c.index-self-i-then-i-n.result c.place_of-i.result c.if-n-gt-MOST_ROWS.false
+          c.place_of-i.ensures c.if-i-n.true;
     }
 
 pub returns : goal.returns
@@ -23,8 +23,8 @@ returns g c =
     let num = g.L.Label.number in
     let rows = c.args.self.now.rows.now in
     record {
-      area = take_none num rows c.if-n-gt-MOST-ROWS.false (num c.args.label) c.place-of-i.result c.place-of-i.ensures c.if-i-n.false;
+      area = take_none num rows c.if-n-gt-MOST_ROWS.false (num c.args.label) c.place_of-i.result c.place_of-i.ensures c.if-i-n.false;
       lender = refl {a = c.args.self.now.rows.ghost_name};
       kept = λ well. well;
-      answer = live_none num rows (num c.args.label) c.place-of-i.result c.if-n-gt-MOST-ROWS.false c.place-of-i.ensures c.if-i-n.false;
+      answer = live_none num rows (num c.args.label) c.place_of-i.result c.if-n-gt-MOST_ROWS.false c.place_of-i.ensures c.if-i-n.false;
     }
