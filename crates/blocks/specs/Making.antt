@@ -8,7 +8,7 @@
 --   Areas c d n r    what its cells, marks and counters then are
 -- Assumes nothing.
 use Rattle.std.specs.Prelude.{◌≡◌, ℕ, ◌≤◌, ◌⊎◌, List, [], length, replicate, Some, None, Ok, Err, Option, Result}
-use Rattle.std.specs.Borrow.{Bor, MutBor}
+use Rattle.std.specs.Borrow.{MutBor}
 use Rattle.refusal.specs.declared.Refusal.{Refusal}
 use Rattle.refusal.specs.declared.Refusal.TheVariants.{BadSize, MapNotEmpty}
 use Rattle.label.specs.declared.stream.StreamLabel.{StreamLabel}
@@ -54,7 +54,7 @@ module _ {L B S : Type 0} (bm : Ghosts B L Entry) (sm : Ghosts S StreamLabel Pos
     pub verdict : Emptied b t r
 
   -- the lent cells and marks, the bound n and the two maps make the service r
-  pub record Makes (cells : Bor (List ℕ)) (marks : Bor (List Mark)) (n : ℕ) (b : B) (t : S) (r : Blocks L B S) : Type 0 where
+  pub record Makes (cells : MutBor (List ℕ)) (marks : MutBor (List Mark)) (n : ℕ) (b : B) (t : S) (r : Blocks L B S) : Type 0 where
     pub fresh : Sizes (length cells.now) (length marks.now) n → BothEmpty b t → Lived bm sm [] r
     pub not_empty : Sizes (length cells.now) (length marks.now) n → (BothEmpty b t → ⊥) → r.fault ≡ Some MapNotEmpty
     pub entries : Looked bm b r.entries

@@ -11,7 +11,7 @@ use Rattle.table.specs.Moving.{occupied}
 use Rattle.table.specs.Tables.{Nowhere, Sound, first_of, look, second_of, unmarked}
 use Rattle.table.proofs.Both.{length_at_both}
 use Rattle.table.proofs.Coming.{occupy_look, occupy_sound}
-use Rattle.table.proofs.Looking.{look_none}
+use Rattle.table.proofs.Looking.{eqb_swap, look_none}
 use Rattle.table.proofs.Marks.{rest_occupied}
 use Rattle.table.proofs.Relocating.{nowhere_of}
 use Rattle.search.specs.Reached.{LowestAt, Reached, Trail}
@@ -71,6 +71,7 @@ module _ {L V : Type 0} (kind : Ghosts L) (bs : List (Bucket L V)) (n : ℕ) (t 
     added_look q =
         occupy_look kind cs (good.sound sound) small_cs n (t.bucket a) j x in_cs good.few x_is free_x l v el none_cs home_cs q
         ∙ ap (cond (eqb q n) (Some v)) (good.finds sound q)
+        ∙ ap (λ b. cond b (Some v) (look kind bs q)) (eqb_swap q n)
 
     pub added_length : length es ≡ length bs
     added_length = length_at_both _ _ cs (t.bucket a) (first_of kind (length cs) n) ∙ good.long

@@ -1,5 +1,5 @@
 -- What put and ask answer, from what was found out about the label.
-use Rattle.std.proofs.Common.{◌≡◌, ℕ, ◌<◌, ◌≤◌, true, false, eqb, List, length, get_or, is_some, Some, None, Option, sym, refl, ap, ◌∙◌, subst, arith}
+use Rattle.std.proofs.Common.{◌≡◌, ℕ, ◌<◌, ◌≤◌, true, false, cond, eqb, List, length, get_or, is_some, Some, None, Option, sym, refl, ap, ◌∙◌, subst, arith}
 use Rattle.std.proofs.lemmas.Bool.{cond-true, eq-eqb}
 use Rattle.label.specs.declared.Label.{Ghosts}
 use Rattle.map.specs.Meaning.{beside, changed}
@@ -17,7 +17,7 @@ use Rattle.table.specs.declared.finding.Spot.{Spot}
 use Rattle.table.proofs.Alike.{repaid_look, repaid_sound}
 use Rattle.table.proofs.Answering.{live_right, live_wrong}
 use Rattle.table.proofs.Coming.{room}
-use Rattle.table.proofs.Looking.{look_at, look_none}
+use Rattle.table.proofs.Looking.{eqb_swap, look_at, look_none}
 use Rattle.table.proofs.Marks.{rest_repaid}
 use Rattle.table.proofs.Rule.{looks_lies, looks_nowhere}
 use Rattle.marks.specs.Marks.{Marked, bucket_at}
@@ -110,7 +110,8 @@ module _ {L V : Type 0} (kind : Ghosts L) (bs : List (Bucket L V)) (l : L) where
             size = size;
             stores = (
               ap (λ z. look kind z n) is_live ∙ held_look ∙ ap Some (ap (λ b. (slot_of b x.slot).payload) y_is ∙ sym (was y)),
-              looks_es es size (λ f. changed f n (Some v)) (λ q. ap (λ z. look kind z q) area ∙ repaid_look kind bs sound n x.bucket x.slot v lies q),
+              looks_es es size (λ f. changed f n (Some v)) (λ q. ap (λ z. look kind z q) area ∙ repaid_look kind bs sound n x.bucket x.slot v lies q
+                  ∙ ap (λ b. cond b (Some v) (look kind bs q)) (eqb_swap q n)),
               λ i k h. elsewhere i k (subst (λ z. Lies kind z n i k) is_live h),
             );
           }

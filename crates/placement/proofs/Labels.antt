@@ -1,7 +1,6 @@
 -- The labels of a sound table: each stands once in their list, and they are those that the table pairs with a payload.
 use Rattle.std.proofs.Common.{◌≡◌, ℕ, zero, suc, ◌+◌, ◌*◌, Bool, true, false, cond, ◌&&◌, eqb, List, [], ◌∷◌, length, is_some, Some, None, Option, sym, refl, ap, ◌∙◌, ⊎_elim, arith}
 use Rattle.std.proofs.lemmas.Bool.{cond_both}
-use Rattle.std.proofs.lemmas.Bool.Decides.{nat_tests}
 use Rattle.label.specs.declared.Label.{Ghosts}
 use Rattle.map.specs.Meaning.{held}
 use Rattle.map.specs.Sets.{Counts, Distinct, ◌∈◌, member}
@@ -10,6 +9,7 @@ use Rattle.bucket.specs.Slots.{Has}
 use Rattle.bucket.specs.declared.slots.Bucket.{Bucket}
 use Rattle.bucket.specs.declared.slots.Slot.{Slot}
 use Rattle.table.specs.Tables.{Lies, Sound, hit, look, or_else}
+use Rattle.table.proofs.Looking.{eqb_swap}
 use Rattle.placement.specs.Fit.{labels, labels_in, slots_of}
 
 module _ {X : Type 0} where
@@ -20,9 +20,6 @@ module _ {X : Type 0} where
   some_or : (c : Bool) (x : X) (o : Option X) → cond c true (is_some o) ≡ is_some (or_else (cond c (Some x) None) o)
   some_or true x o = refl
   some_or false x o = refl
-
-eqb_swap : (a b : ℕ) → eqb a b ≡ eqb b a
-eqb_swap a b = grind (arith, nat_tests)
 
 module _ {L V : Type 0} (kind : Ghosts L) where
   -- ---- slots in a row: what the first that has n pairs with it

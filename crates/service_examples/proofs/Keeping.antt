@@ -1,5 +1,5 @@
 -- A block out on a grant stays out until the grant is ended.
-use Rattle.std.proofs.Common.{◌≡◌, ℕ, eqb, ◌≢◌, ◌⊎◌, List, [], ◌∷◌, length, Some, None, Ok, Err, Option, Result, sym, ap, ◌∙◌, subst, inl, inr, ⊎_elim, Bor}
+use Rattle.std.proofs.Common.{◌≡◌, ℕ, eqb, ◌≢◌, ◌⊎◌, List, [], ◌∷◌, length, Some, None, Ok, Err, Option, Result, sym, ap, ◌∙◌, subst, inl, inr, ⊎_elim, MutBor}
 use Rattle.std.specs.Map.{update}
 use Rattle.std.proofs.lemmas.Bool.{true≢false}
 use Rattle.refusal.specs.declared.Refusal.{Refusal}
@@ -217,7 +217,7 @@ module _ {L B S : Type 0} (bm : Ghosts B L Entry) (sm : Ghosts S StreamLabel Pos
         );
   }
 
-  pub made_ready : (cells : Bor (List ℕ)) (marks : Bor (List Mark)) (n : ℕ) (b b' : B) (t t' : S) (v : Result (Unit {0}) Refusal) (r : Blocks L B S)
+  pub made_ready : (cells : MutBor (List ℕ)) (marks : MutBor (List Mark)) (n : ℕ) (b b' : B) (t t' : S) (v : Result (Unit {0}) Refusal) (r : Blocks L B S)
       → Sized (length cells.now) (length marks.now) n v → Checks bm sm b t v b' t' → Makes bm sm cells marks n b' t' r → Areas cells marks n r → Ready bm sm r
   made_ready cells marks n b b' t t' (Ok u) r sizes checked makes areas =
       inr ([], makes.fresh sizes ((λ k. (λ i. checked.entries.pairs i k) ∙ checked.verdict.0 k), (λ k. (λ i. checked.streams.pairs i k) ∙ checked.verdict.1 k)))

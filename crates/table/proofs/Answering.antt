@@ -2,7 +2,6 @@
 use Rattle.std.proofs.Common.{◌≡◌, ℕ, ◌<◌, true, false, cond, eqb, List, [], length, get_or, Some, None, sym, refl, ap, ◌∙◌, subst, ⊎_elim, arith}
 use Rattle.std.proofs.lemmas.List.{get_or_read}
 use Rattle.std.proofs.lemmas.Bool.{cases_eq, cond-false, cond-true, eq-eqb, ne_eqb, true≢false}
-use Rattle.std.proofs.lemmas.Bool.Decides.{nat_tests}
 use Rattle.std.specs.Map.{update}
 use Rattle.label.specs.declared.Label.{Ghosts}
 use Rattle.bucket.specs.Changes.{freed, moved_back}
@@ -20,12 +19,9 @@ use Rattle.table.specs.declared.finding.Found.{Found}
 use Rattle.table.specs.declared.finding.Spot.{Spot}
 use Rattle.table.proofs.Both.{length_at_both}
 use Rattle.table.proofs.Leaving.{vacate_look, vacate_sound}
-use Rattle.table.proofs.Looking.{look_at, look_none}
+use Rattle.table.proofs.Looking.{eqb_swap, look_at, look_none}
 use Rattle.table.proofs.Marks.{rest_vacated}
 use Rattle.table.proofs.Rule.{looks_lies, looks_nowhere}
-
-eqb_turn : (a b : ℕ) → eqb a b ≡ eqb b a
-eqb_turn a b = grind (arith, nat_tests)
 
 module _ {X : Type 0} (bs : List X) where
   pub live_right : allowed_size (length bs) ≡ true → live bs ≡ bs
@@ -129,7 +125,7 @@ module _ {L V : Type 0} (kind : Ghosts L) (bs : List (Bucket L V)) (n : ℕ) whe
             });
             size = size;
             pairs = λ m. ap (λ z. look kind z m) (live_es ∙ area_is) ∙ vacate_look kind bs (sound_of t kept.sound) n x.bucket x.slot y lies y_is m
-                ∙ ap (λ b. cond b None (look kind bs m)) (eqb_turn m n)
+                ∙ ap (λ b. cond b None (look kind bs m)) (eqb_swap m n)
                 ∙ ap (λ z. update eqb (look kind z) n None m) (sym (live_right bs t));
             answer = ap (λ z. Some z.payload) (slot y) ∙ ap (λ b. Some (slot_of b x.slot).payload) (sym y_is)
                 ∙ sym (look_at kind bs (sound_of t kept.sound) n x.bucket x.slot y y_is lies) ∙ ap (λ z. look kind z n) (sym (live_right bs t));

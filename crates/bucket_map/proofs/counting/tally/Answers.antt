@@ -34,8 +34,8 @@ loop-i-preserved g c =
     more : (t r i : ℕ) → t ≤ 4 * i → r ≤ 4 → t + r ≤ 4 * (i + 1)
     more t r i p q = omega arith
 
-pub overflow-add-total : goal.overflow-add-total
-overflow-add-total g c =
+pub overflow_add-total : goal.overflow_add-total
+overflow_add-total g c =
     let most = allowed_most (length c.args.buckets.now) (c.allowed.ensures.power.0 c.if-not-allowed.false) in
     let a = c.loop-i.invariant.1 in
     let b = c.used_slots-total.ensures.few in

@@ -22,8 +22,8 @@ relocate-requires g c =
       );
     }
 
-pub overflow-add-result : goal.overflow-add-result
-overflow-add-result g c =
+pub overflow_add-result : goal.overflow_add-result
+overflow_add-result g c =
     let ms = c.args.buckets.now in
     omega (arith, count_le ms, c.requires.walk.listed.room, c.requires.walk.within, allowed_most (length ms) c.requires.right)
 

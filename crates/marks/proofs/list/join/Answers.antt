@@ -24,8 +24,8 @@ mark_place-requires g c =
     let e = peek_at (λ b. b.mark.joined) false ms place.bucket c.index-buckets-place.result c.requires.within ∙ sym c.has_joined.ensures ∙ c.if-has_joined.false in
     omega (arith, c.mark_joined.auto.buckets, count_lt ms place.bucket c.requires.within e, c.requires.room)
 
-pub overflow-add-result : goal.overflow-add-result
-overflow-add-result g c = omega (arith, count_le c.args.buckets.now, c.requires.room, c.requires.small.0)
+pub overflow_add-result : goal.overflow_add-result
+overflow_add-result g c = omega (arith, count_le c.args.buckets.now, c.requires.room, c.requires.small.0)
 
 pub returns : goal.returns
 returns g c =
