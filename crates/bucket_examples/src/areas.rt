@@ -6,8 +6,9 @@ use insertion::Stored;
 use label::OldBlock;
 use refusal::Refusal;
 use std::mem::size_of;
-use std::process::Abort;
 use table::Found;
+use crate::checks::{check, check_eq};
+use std::test::*;
 
 const TAKEN: Slot<OldBlock, u32> = Slot {
     used: true,
@@ -33,34 +34,34 @@ const STALE: Bucket<OldBlock, u32> = Bucket {
 };
 
 #[test]
-fn powers_of_two_up_to_the_largest_are_right(rt: HostRuntime) {
-    assert_eq!(rt; check_size(&[STALE; 1]), Ok(()));
-    assert_eq!(rt; check_size(&[STALE; 2]), Ok(()));
-    assert_eq!(rt; check_size(&[STALE; 4]), Ok(()));
-    assert_eq!(rt; check_size(&[STALE; 4096]), Ok(()));
+fn powers_of_two_up_to_the_largest_are_right() -> Result<(), Fail> {
+    check_eq(check_size(&[STALE; 1]), Ok(()))?;
+    check_eq(check_size(&[STALE; 2]), Ok(()))?;
+    check_eq(check_size(&[STALE; 4]), Ok(()))?;
+    check_eq(check_size(&[STALE; 4096]), Ok(()))
 }
 
 #[test]
-fn other_sizes_are_refused(rt: HostRuntime) {
+fn other_sizes_are_refused() -> Result<(), Fail> {
     let none: [Bucket<OldBlock, u32>; 0] = [];
-    assert_eq!(rt; check_size(&none), Err(Refusal::BadSize));
-    assert_eq!(rt; check_size(&[STALE; 3]), Err(Refusal::BadSize));
-    assert_eq!(rt; check_size(&[STALE; 6]), Err(Refusal::BadSize));
-    assert_eq!(rt; check_size(&[STALE; 4095]), Err(Refusal::BadSize));
-    assert_eq!(rt; check_size(&[STALE; 8192]), Err(Refusal::BadSize));
+    check_eq(check_size(&none), Err(Refusal::BadSize))?;
+    check_eq(check_size(&[STALE; 3]), Err(Refusal::BadSize))?;
+    check_eq(check_size(&[STALE; 6]), Err(Refusal::BadSize))?;
+    check_eq(check_size(&[STALE; 4095]), Err(Refusal::BadSize))?;
+    check_eq(check_size(&[STALE; 8192]), Err(Refusal::BadSize))
 }
 
 #[test]
-fn a_bucket_has_64_bytes(rt: HostRuntime) {
-    assert_eq!(rt; size_of::<Bucket<OldBlock, u32>>(), 64);
+fn a_bucket_has_64_bytes() -> Result<(), Fail> {
+    check_eq(size_of::<Bucket<OldBlock, u32>>(), 64)
 }
 
 #[test]
-fn making_a_map_empties_a_right_area(rt: HostRuntime) {
+fn making_a_map_empties_a_right_area() -> Result<(), Fail> {
     let mut area = [STALE; 4];
     let map = BucketMap::new(&mut area);
-    assert_eq!(rt; map.count(), 0);
-    assert_eq!(rt; map.find(OldBlock(9)).payload, None);
+    check_eq(map.count(), 0)?;
+    check_eq(map.find(OldBlock(9)).payload, None)?;
     let slot = Slot {
         used: false,
         ..TAKEN
@@ -72,31 +73,31 @@ fn making_a_map_empties_a_right_area(rt: HostRuntime) {
         s3: slot,
         ..blank(OldBlock(9), 90)
     };
-    assert_eq!(rt; area, [emptied; 4]);
+    check_eq(area, [emptied; 4])
 }
 
 // A map over the area holds nothing and takes nothing.
-fn holds_nothing(rt: &impl Abort, area: &mut [Bucket<OldBlock, u32>]) {
+fn holds_nothing(area: &mut [Bucket<OldBlock, u32>]) -> Result<(), Fail> {
     let mut map = BucketMap::new(area);
-    assert_eq!(rt;
+    check_eq(
         map.find(OldBlock(9)),
         Found {
             payload: None,
             read: 0,
-        }
-    );
-    assert!(rt; !map.ask(OldBlock(9)) && !map.ask(OldBlock(8)));
-    assert_eq!(rt; map.put(OldBlock(9), 1), Stored::Full);
-    assert_eq!(rt; map.put(OldBlock(8), 1), Stored::Full);
-    assert_eq!(rt; map.take(OldBlock(9)), None);
-    assert_eq!(rt; map.count(), 0);
+        },
+    )?;
+    check(!map.ask(OldBlock(9)) && !map.ask(OldBlock(8)))?;
+    check_eq(map.put(OldBlock(9), 1), Stored::Full)?;
+    check_eq(map.put(OldBlock(8), 1), Stored::Full)?;
+    check_eq(map.take(OldBlock(9)), None)?;
+    check_eq(map.count(), 0)
 }
 
 #[test]
-fn wrong_areas_hold_nothing_and_stay_untouched(rt: HostRuntime) {
+fn wrong_areas_hold_nothing_and_stay_untouched() -> Result<(), Fail> {
     let mut none: [Bucket<OldBlock, u32>; 0] = [];
-    holds_nothing(&rt, &mut none);
+    holds_nothing(&mut none)?;
     let mut area = [STALE; 3];
-    holds_nothing(&rt, &mut area);
-    assert_eq!(rt; area, [STALE; 3]);
+    holds_nothing(&mut area)?;
+    check_eq(area, [STALE; 3])
 }

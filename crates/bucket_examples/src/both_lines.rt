@@ -4,9 +4,10 @@ use bucket_map::{BucketMap, Change};
 use insertion::Stored;
 use label::{Label, NewBlock, OldBlock, StreamLabel};
 use map::{Denied, Map};
-use std::process::Abort;
 use straight::StraightMap;
 use table::Found;
+use crate::checks::{check, check_eq};
+use std::test::*;
 
 #[derive(Clone, Copy, PartialEq, Eq, Debug)]
 struct Span {
@@ -18,40 +19,41 @@ fn three_from(first: u32) -> Span {
     Span { first, count: 3 }
 }
 
-fn adds(rt: &impl Abort, map: &mut BucketMap<NewBlock, Span>, numbers: &[u32]) {
+fn adds(map: &mut BucketMap<NewBlock, Span>, numbers: &[u32]) -> Result<(), Fail> {
     for n in numbers.iter() {
-        assert_eq!(rt; map.put(NewBlock(*n), three_from(*n)), Stored::Added(0));
+        check_eq(map.put(NewBlock(*n), three_from(*n)), Stored::Added(0))?;
     }
+    Ok(())
 }
 
 // Of two buckets, 2, 3, 5, 6 and 7 have both, 0 and 4 the one at 0 twice, and 1, 9 and 10 the other twice.
-fn fill(rt: &impl Abort, map: &mut BucketMap<NewBlock, Span>) {
-    adds(rt, map, &[2, 3, 5, 6]);
-    assert_eq!(rt; map.put(NewBlock(0), three_from(0)), Stored::Added(1));
-    adds(rt, map, &[1, 9, 10]);
-    assert_eq!(rt; map.put(NewBlock(7), three_from(7)), Stored::Full);
-    assert_eq!(rt; map.put(NewBlock(4), three_from(4)), Stored::Full);
-    assert_eq!(rt; map.count(), 8);
+fn fill(map: &mut BucketMap<NewBlock, Span>) -> Result<(), Fail> {
+    adds(map, &[2, 3, 5, 6])?;
+    check_eq(map.put(NewBlock(0), three_from(0)), Stored::Added(1))?;
+    adds(map, &[1, 9, 10])?;
+    check_eq(map.put(NewBlock(7), three_from(7)), Stored::Full)?;
+    check_eq(map.put(NewBlock(4), three_from(4)), Stored::Full)?;
+    check_eq(map.count(), 8)
 }
 
 #[test]
-fn new_line_labels_with_spans(rt: HostRuntime) {
+fn new_line_labels_with_spans() -> Result<(), Fail> {
     let mut area = [blank(NewBlock(0), three_from(0)); 2];
     let mut map = BucketMap::new(&mut area);
-    fill(&rt, &mut map);
-    assert_eq!(rt;
+    fill(&mut map)?;
+    check_eq(
         map.find(NewBlock(2)),
         Found {
             payload: Some(three_from(2)),
             read: 2,
-        }
-    );
-    assert_eq!(rt; map.take(NewBlock(0)), Some(three_from(0)));
-    assert_eq!(rt;
+        },
+    )?;
+    check_eq(map.take(NewBlock(0)), Some(three_from(0)))?;
+    check_eq(
         map.put(NewBlock(3), three_from(8)),
-        Stored::Replaced(three_from(3))
-    );
-    assert_eq!(rt; map.put(NewBlock(7), three_from(7)), Stored::Added(0));
+        Stored::Replaced(three_from(3)),
+    )?;
+    check_eq(map.put(NewBlock(7), three_from(7)), Stored::Added(0))
 }
 
 fn stream(session: u8) -> StreamLabel {
@@ -62,26 +64,26 @@ fn stream(session: u8) -> StreamLabel {
     }
 }
 
-fn puts_four<M: Map<StreamLabel, u8>>(rt: &impl Abort, map: &mut M) {
+fn puts_four<M: Map<StreamLabel, u8>>(map: &mut M) -> Result<(), Fail> {
     for session in 0..4 {
-        assert!(rt; map.ask(stream(session)));
-        assert_eq!(rt; map.put(stream(session), 200 + session), Ok(None));
+        check(map.ask(stream(session)))?;
+        check_eq(map.put(stream(session), 200 + session), Ok(None))?;
     }
-    assert_eq!(rt; map.count(), 4);
+    check_eq(map.count(), 4)
 }
 
 // A map of four labels, by its interface alone.
-fn serves_four_streams<M: Map<StreamLabel, u8>>(rt: &impl Abort, map: &mut M) {
-    puts_four(rt, map);
-    assert!(rt; !map.ask(stream(4)) && map.ask(stream(3)));
-    assert_eq!(rt; map.put(stream(4), 1), Err(Denied::Full));
-    assert_eq!(rt; map.put(stream(3), 1), Ok(Some(203)));
-    assert_eq!(rt; map.take(stream(2)), Some(202));
-    assert_eq!(rt; map.take(stream(2)), None);
-    assert_eq!(rt; map.put(stream(4), 2), Ok(None));
-    assert_eq!(rt; map.find(stream(4)), Some(2));
-    assert_eq!(rt; map.find(stream(2)), None);
-    assert_eq!(rt; map.count(), 4);
+fn serves_four_streams<M: Map<StreamLabel, u8>>(map: &mut M) -> Result<(), Fail> {
+    puts_four(map)?;
+    check(!map.ask(stream(4)) && map.ask(stream(3)))?;
+    check_eq(map.put(stream(4), 1), Err(Denied::Full))?;
+    check_eq(map.put(stream(3), 1), Ok(Some(203)))?;
+    check_eq(map.take(stream(2)), Some(202))?;
+    check_eq(map.take(stream(2)), None)?;
+    check_eq(map.put(stream(4), 2), Ok(None))?;
+    check_eq(map.find(stream(4)), Some(2))?;
+    check_eq(map.find(stream(2)), None)?;
+    check_eq(map.count(), 4)
 }
 
 const NO_STREAM: StreamLabel = StreamLabel {
@@ -91,48 +93,48 @@ const NO_STREAM: StreamLabel = StreamLabel {
 };
 
 #[test]
-fn one_bucket_serves_streams_as_four_rows_do(rt: HostRuntime) {
+fn one_bucket_serves_streams_as_four_rows_do() -> Result<(), Fail> {
     let mut area = [blank(NO_STREAM, 0); 1];
-    serves_four_streams(&rt, &mut BucketMap::new(&mut area));
+    serves_four_streams(&mut BucketMap::new(&mut area))?;
     let mut rows = [blank_row(NO_STREAM, 0); 4];
-    serves_four_streams(&rt, &mut StraightMap::new(&mut rows));
+    serves_four_streams(&mut StraightMap::new(&mut rows))
 }
 
 // Of two buckets, sessions 0, 1, 3 and 6 have the one at 0 first, and session 2 has it twice.
 #[test]
-fn a_stream_moves_for_another(rt: HostRuntime) {
+fn a_stream_moves_for_another() -> Result<(), Fail> {
     let mut area = [blank(NO_STREAM, 0u8); 2];
     let mut map = BucketMap::new(&mut area);
     for session in [0, 1, 3, 6].iter() {
-        assert_eq!(rt; map.put(stream(*session), *session), Stored::Added(0));
+        check_eq(map.put(stream(*session), *session), Stored::Added(0))?;
     }
-    assert_eq!(rt; map.put(stream(2), 2), Stored::Added(1));
-    assert_eq!(rt; map.find(stream(0)).read, 2);
-    assert_eq!(rt; map.find(stream(0)).payload, Some(0));
-    assert_eq!(rt; map.find(stream(2)).read, 1);
-    assert_eq!(rt; map.take(stream(0)), Some(0));
-    assert_eq!(rt; map.count(), 4);
+    check_eq(map.put(stream(2), 2), Stored::Added(1))?;
+    check_eq(map.find(stream(0)).read, 2)?;
+    check_eq(map.find(stream(0)).payload, Some(0))?;
+    check_eq(map.find(stream(2)).read, 1)?;
+    check_eq(map.take(stream(0)), Some(0))?;
+    check_eq(map.count(), 4)
 }
 
 // A map of room for a pair, by its interface alone.
-fn serves_a_pair<L: Label, M: Map<L, Span>>(rt: &impl Abort, map: &mut M, a: L, b: L) {
-    assert_eq!(rt; map.put(a, three_from(1)), Ok(None));
-    assert_eq!(rt; map.put(b, three_from(2)), Ok(None));
-    assert_eq!(rt; map.put(a, three_from(3)), Ok(Some(three_from(1))));
-    assert_eq!(rt; map.count(), 2);
-    assert_eq!(rt; map.take(a), Some(three_from(3)));
-    assert_eq!(rt; map.find(a), None);
-    assert_eq!(rt; map.find(b), Some(three_from(2)));
+fn serves_a_pair<L: Label, M: Map<L, Span>>(map: &mut M, a: L, b: L) -> Result<(), Fail> {
+    check_eq(map.put(a, three_from(1)), Ok(None))?;
+    check_eq(map.put(b, three_from(2)), Ok(None))?;
+    check_eq(map.put(a, three_from(3)), Ok(Some(three_from(1))))?;
+    check_eq(map.count(), 2)?;
+    check_eq(map.take(a), Some(three_from(3)))?;
+    check_eq(map.find(a), None)?;
+    check_eq(map.find(b), Some(three_from(2)))
 }
 
 #[test]
-fn labels_of_every_kind_by_the_interface(rt: HostRuntime) {
+fn labels_of_every_kind_by_the_interface() -> Result<(), Fail> {
     let mut new = [blank(NewBlock(0), three_from(0)); 2];
-    serves_a_pair(&rt, &mut BucketMap::new(&mut new), NewBlock(2), NewBlock(9));
+    serves_a_pair(&mut BucketMap::new(&mut new), NewBlock(2), NewBlock(9))?;
     let mut old = [blank(OldBlock(0), three_from(0)); 4];
-    serves_a_pair(&rt, &mut BucketMap::new(&mut old), OldBlock(2), OldBlock(9));
+    serves_a_pair(&mut BucketMap::new(&mut old), OldBlock(2), OldBlock(9))?;
     let mut streams = [blank(NO_STREAM, three_from(0)); 1];
-    serves_a_pair(&rt, &mut BucketMap::new(&mut streams), stream(2), stream(9));
+    serves_a_pair(&mut BucketMap::new(&mut streams), stream(2), stream(9))
 }
 
 // Makes the changes on a straight map, and answers how many puts it denied.
@@ -155,15 +157,14 @@ fn apply_straight<L: Label>(map: &mut StraightMap<L, u32>, changes: &[Change<L, 
 
 // Both maps have the same pairs with the labels.
 fn agree<L: Label>(
-    rt: &impl Abort,
     map: &BucketMap<L, u32>,
     plain: &StraightMap<L, u32>,
     labels: &[L],
-) {
+) -> Result<(), Fail> {
     for label in labels.iter() {
-        assert_eq!(rt; map.find(*label).payload, plain.find(*label));
+        check_eq(map.find(*label).payload, plain.find(*label))?;
     }
-    assert_eq!(rt; map.count(), plain.count());
+    check_eq(map.count(), plain.count())
 }
 
 const NEW_CHANGES: [Change<NewBlock, u32>; 9] = [
@@ -189,15 +190,15 @@ const NEW_LABELS: [NewBlock; 7] = [
 ];
 
 #[test]
-fn changes_on_one_bucket_and_on_four_rows(rt: HostRuntime) {
+fn changes_on_one_bucket_and_on_four_rows() -> Result<(), Fail> {
     let mut area = [blank(NewBlock(0), 0); 1];
     let mut map = BucketMap::new(&mut area);
     let mut rows = [blank_row(NewBlock(0), 0); 4];
     let mut plain = StraightMap::new(&mut rows);
-    assert_eq!(rt; map.apply(&NEW_CHANGES), 1);
-    assert_eq!(rt; apply_straight(&mut plain, &NEW_CHANGES), 1);
-    assert_eq!(rt; map.count(), 4);
-    agree(&rt, &map, &plain, &NEW_LABELS);
+    check_eq(map.apply(&NEW_CHANGES), 1)?;
+    check_eq(apply_straight(&mut plain, &NEW_CHANGES), 1)?;
+    check_eq(map.count(), 4)?;
+    agree(&map, &plain, &NEW_LABELS)
 }
 
 const EARLY_CHANGES: [Change<OldBlock, u32>; 5] = [
@@ -227,17 +228,17 @@ const OLD_LABELS: [OldBlock; 7] = [
 
 // 8 does not fit beside 0, 2, 4 and 6, and fits once 4 is taken out; the straight map has room throughout.
 #[test]
-fn changes_on_two_buckets_but_for_a_full_put(rt: HostRuntime) {
+fn changes_on_two_buckets_but_for_a_full_put() -> Result<(), Fail> {
     let mut area = [blank(OldBlock(0), 0); 2];
     let mut map = BucketMap::new(&mut area);
     let mut rows = [blank_row(OldBlock(0), 0); 256];
     let mut plain = StraightMap::new(&mut rows);
-    assert_eq!(rt; map.apply(&EARLY_CHANGES), 0);
-    assert_eq!(rt; apply_straight(&mut plain, &EARLY_CHANGES), 0);
-    assert_eq!(rt; map.apply(&[Change::Put(OldBlock(8), 6)]), 1);
-    agree(&rt, &map, &plain, &OLD_LABELS);
-    assert_eq!(rt; map.apply(&LATE_CHANGES), 0);
-    assert_eq!(rt; apply_straight(&mut plain, &LATE_CHANGES), 0);
-    agree(&rt, &map, &plain, &OLD_LABELS);
-    assert_eq!(rt; map.apply(&[]), 0);
+    check_eq(map.apply(&EARLY_CHANGES), 0)?;
+    check_eq(apply_straight(&mut plain, &EARLY_CHANGES), 0)?;
+    check_eq(map.apply(&[Change::Put(OldBlock(8), 6)]), 1)?;
+    agree(&map, &plain, &OLD_LABELS)?;
+    check_eq(map.apply(&LATE_CHANGES), 0)?;
+    check_eq(apply_straight(&mut plain, &LATE_CHANGES), 0)?;
+    agree(&map, &plain, &OLD_LABELS)?;
+    check_eq(map.apply(&[]), 0)
 }

@@ -5,8 +5,9 @@ use bucket::Bucket;
 use bucket_map::BucketMap;
 use insertion::Stored;
 use label::{Label, NewBlock};
-use std::process::Abort;
 use std::test::Fail;
+use crate::checks::{check, check_eq};
+use std::test::*;
 
 // The label of a turn. No two are the same, since the factor is odd.
 fn nth(i: u32) -> NewBlock {
@@ -37,49 +38,45 @@ fn fill(map: &mut BucketMap<NewBlock, u32>) -> Result<Filled, Fail> {
     Err(Fail::new("more labels fit than there are slots"))
 }
 
-fn finds_all(rt: &impl Abort, map: &BucketMap<NewBlock, u32>, count: u32) {
+fn finds_all(map: &BucketMap<NewBlock, u32>, count: u32) -> Result<(), Fail> {
     for i in 0..count {
         let found = map.find(nth(i));
-        assert_eq!(rt; found.payload, Some(i));
-        assert!(rt; found.read == 1 || found.read == 2);
+        check_eq(found.payload, Some(i))?;
+        check(found.read == 1 || found.read == 2)?;
     }
-    assert_eq!(rt; map.count(), count as usize);
+    check_eq(map.count(), count as usize)
 }
 
 #[test]
-fn sixteen_thousand_labels_are_found(rt: HostRuntime) -> Result<(), Fail> {
+fn sixteen_thousand_labels_are_found() -> Result<(), Fail> {
     let mut area = [blank(NewBlock(0), 0); 4096];
     let mut map = BucketMap::new(&mut area);
     let filled = fill(&mut map)?;
-    assert!(rt; filled.count >= 15900 && filled.count <= 16100);
-    assert!(rt; filled.moves >= 5 && filled.moves <= 4095);
-    finds_all(&rt, &map, filled.count);
-    assert_eq!(rt; map.find(nth(filled.count)).payload, None);
-    assert!(rt; !map.ask(nth(filled.count)));
-    Ok(())
+    check(filled.count >= 15900 && filled.count <= 16100)?;
+    check(filled.moves >= 5 && filled.moves <= 4095)?;
+    finds_all(&map, filled.count)?;
+    check_eq(map.find(nth(filled.count)).payload, None)?;
+    check(!map.ask(nth(filled.count)))
 }
 
 // Takes every third label out.
-fn takes_thirds(rt: &impl Abort, map: &mut BucketMap<NewBlock, u32>, count: u32) {
+fn takes_thirds(map: &mut BucketMap<NewBlock, u32>, count: u32) -> Result<(), Fail> {
     for i in 0..count {
         if i % 3 == 0 {
-            assert_eq!(rt; map.take(nth(i)), Some(i));
-            assert_eq!(rt; map.find(nth(i)).payload, None);
+            check_eq(map.take(nth(i)), Some(i))?;
+            check_eq(map.find(nth(i)).payload, None)?;
         }
     }
+    Ok(())
 }
 
 // Puts every third label in again: they fit, since they fitted before.
-fn puts_thirds(
-    rt: &impl Abort,
-    map: &mut BucketMap<NewBlock, u32>,
-    count: u32,
-) -> Result<(), Fail> {
+fn puts_thirds(map: &mut BucketMap<NewBlock, u32>, count: u32) -> Result<(), Fail> {
     for i in 0..count {
         if i % 3 == 0 {
-            assert!(rt; map.ask(nth(i)));
+            check(map.ask(nth(i)))?;
             match map.put(nth(i), i) {
-                Stored::Added(moves) => assert!(rt; moves <= 4095),
+                Stored::Added(moves) => check(moves <= 4095)?,
                 _ => return Err(Fail::new("a label did not fit again")),
             }
         }
@@ -88,23 +85,22 @@ fn puts_thirds(
 }
 
 #[test]
-fn what_is_taken_out_of_a_full_table_fits_again(rt: HostRuntime) -> Result<(), Fail> {
+fn what_is_taken_out_of_a_full_table_fits_again() -> Result<(), Fail> {
     let mut area = [blank(NewBlock(0), 0); 4096];
     let mut map = BucketMap::new(&mut area);
     let filled = fill(&mut map)?;
     let denied = nth(filled.count);
-    takes_thirds(&rt, &mut map, filled.count);
-    assert_eq!(rt;
+    takes_thirds(&mut map, filled.count)?;
+    check_eq(
         map.count(),
-        (filled.count - filled.count.div_ceil(3)) as usize
-    );
-    assert_eq!(rt; map.put(denied, 1), Stored::Added(0));
-    assert_eq!(rt; map.take(denied), Some(1));
-    puts_thirds(&rt, &mut map, filled.count)?;
-    assert_eq!(rt; map.put(denied, 1), Stored::Full);
-    finds_all(&rt, &map, filled.count);
-    well_kept(&rt, &area);
-    Ok(())
+        (filled.count - filled.count.div_ceil(3)) as usize,
+    )?;
+    check_eq(map.put(denied, 1), Stored::Added(0))?;
+    check_eq(map.take(denied), Some(1))?;
+    puts_thirds(&mut map, filled.count)?;
+    check_eq(map.put(denied, 1), Stored::Full)?;
+    finds_all(&map, filled.count)?;
+    well_kept(&area)
 }
 
 fn has(set: &[bool], i: u64) -> bool {
@@ -158,37 +154,38 @@ fn reach(area: &[Bucket<NewBlock, u32>], label: NewBlock, set: &mut [bool]) {
 }
 
 // The labels in a bucket of the set have no bucket outside, and no slot is left for another.
-fn is_taken(rt: &impl Abort, bucket: &Bucket<NewBlock, u32>, set: &[bool]) {
+fn is_taken(bucket: &Bucket<NewBlock, u32>, set: &[bool]) -> Result<(), Fail> {
     let size = set.len() as u64;
     for k in 0..4 {
         let slot = bucket.slot(k);
         let digest = slot.label.digest();
-        assert!(rt; slot.used);
-        assert!(rt; has(set, first(digest, size)) && has(set, second(digest, size)));
+        check(slot.used)?;
+        check(has(set, first(digest, size)) && has(set, second(digest, size)))?;
     }
+    Ok(())
 }
 
 // Both buckets of a label are in a set whose every slot is used by a label that can lie nowhere else: no arrangement has room for one more.
-fn cannot_fit(rt: &impl Abort, area: &[Bucket<NewBlock, u32>], label: NewBlock, set: &[bool]) {
+fn cannot_fit(area: &[Bucket<NewBlock, u32>], label: NewBlock, set: &[bool]) -> Result<(), Fail> {
     let size = set.len() as u64;
     let digest = label.digest();
-    assert!(rt; has(set, first(digest, size)) && has(set, second(digest, size)));
+    check(has(set, first(digest, size)) && has(set, second(digest, size)))?;
     for (i, bucket) in area.iter().enumerate() {
         if has(set, i as u64) {
-            is_taken(rt, bucket, set);
+            is_taken(bucket, set)?;
         }
     }
+    Ok(())
 }
 
 #[test]
-fn full_is_said_only_where_no_arrangement_has_room(rt: HostRuntime) -> Result<(), Fail> {
+fn full_is_said_only_where_no_arrangement_has_room() -> Result<(), Fail> {
     let mut area = [blank(NewBlock(0), 0); 4096];
     let mut map = BucketMap::new(&mut area);
     let filled = fill(&mut map)?;
-    finds_all(&rt, &map, filled.count);
+    finds_all(&map, filled.count)?;
     let mut set = [false; 4096];
     reach(&area, nth(filled.count), &mut set);
-    cannot_fit(&rt, &area, nth(filled.count), &set);
-    well_kept(&rt, &area);
-    Ok(())
+    cannot_fit(&area, nth(filled.count), &set)?;
+    well_kept(&area)
 }

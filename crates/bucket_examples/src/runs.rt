@@ -5,9 +5,10 @@ use bucket::Bucket;
 use bucket_map::BucketMap;
 use insertion::Stored;
 use label::{BlockNumber, Label, NewBlock, OldBlock};
-use std::process::Abort;
 use std::test::Fail;
 use straight::{Row, StraightMap};
+use crate::checks::{check, check_eq};
+use std::test::*;
 
 // The next of a row of random-looking numbers.
 fn step(state: u64) -> u64 {
@@ -68,33 +69,22 @@ fn has_room<L: BlockNumber>(plain: &StraightMap<L, u32>, label: L) -> bool {
 }
 
 // What a put of a label may answer, by whether there is room for it and what payload it had.
-fn right_answer(
-    rt: &impl Abort,
-    stored: Stored<u32>,
-    old: Option<u32>,
-    room: bool,
-) -> Result<(), Fail> {
+fn right_answer(stored: Stored<u32>, old: Option<u32>, room: bool) -> Result<(), Fail> {
     match stored {
-        Stored::Replaced(payload) => {
-            assert_eq!(rt; old, Some(payload));
-            Ok(())
-        },
+        Stored::Replaced(payload) => check_eq(old, Some(payload)),
         Stored::Added(moves) => {
-            assert_eq!(rt; old, None);
-            assert!(rt; room && moves <= 7);
-            Ok(())
+            check_eq(old, None)?;
+            check(room && moves <= 7)
         }
         Stored::Full => {
-            assert_eq!(rt; old, None);
-            assert!(rt; !room);
-            Ok(())
+            check_eq(old, None)?;
+            check(!room)
         }
     }
 }
 
 // Puts a label into both maps, where it fits.
 fn put_both<L: BlockNumber>(
-    rt: &impl Abort,
     map: &mut BucketMap<L, u32>,
     plain: &mut StraightMap<L, u32>,
     label: L,
@@ -102,26 +92,25 @@ fn put_both<L: BlockNumber>(
 ) -> Result<Stored<u32>, Fail> {
     let room = has_room(plain, label);
     let old = plain.find(label);
-    assert_eq!(rt; map.ask(label), room);
+    check_eq(map.ask(label), room)?;
     let stored = map.put(label, payload);
-    right_answer(rt, stored, old, room)?;
-    assert_eq!(rt; map.ask(label), room);
+    right_answer(stored, old, room)?;
+    check_eq(map.ask(label), room)?;
     if room {
-        assert_eq!(rt; plain.put(label, payload), Ok(old));
+        check_eq(plain.put(label, payload), Ok(old))?;
     }
     Ok(stored)
 }
 
 // Asks both maps for the payload of a label.
 fn find_both<L: BlockNumber>(
-    rt: &impl Abort,
     map: &BucketMap<L, u32>,
     plain: &StraightMap<L, u32>,
     label: L,
-) {
+) -> Result<(), Fail> {
     let found = map.find(label);
-    assert_eq!(rt; found.payload, plain.find(label));
-    assert!(rt; found.read == 1 || found.read == 2);
+    check_eq(found.payload, plain.find(label))?;
+    check(found.read == 1 || found.read == 2)
 }
 
 // What a run has met: how many puts were full, how many of them while a slot was unused, and the most moves that one made.
@@ -149,7 +138,6 @@ fn met_also(met: Met, stored: Stored<u32>, count: usize) -> Met {
 
 // One call of both maps, by a random-looking number: a put, or more seldom another.
 fn turn<L: BlockNumber>(
-    rt: &impl Abort,
     map: &mut BucketMap<L, u32>,
     plain: &mut StraightMap<L, u32>,
     state: u64,
@@ -157,11 +145,11 @@ fn turn<L: BlockNumber>(
 ) -> Result<Met, Fail> {
     let label: L = choice((state >> 32 & 63) as u32);
     match state >> 60 {
-        0..3 => assert_eq!(rt; map.take(label), plain.take(label)),
-        3..6 => find_both(rt, map, plain, label),
-        6 => assert_eq!(rt; map.ask(label), has_room(plain, label)),
+        0..3 => check_eq(map.take(label), plain.take(label))?,
+        3..6 => find_both(map, plain, label)?,
+        6 => check_eq(map.ask(label), has_room(plain, label))?,
         _ => {
-            let stored = put_both(rt, map, plain, label, (state >> 40) as u32)?;
+            let stored = put_both(map, plain, label, (state >> 40) as u32)?;
             return Ok(met_also(met, stored, map.count()));
         }
     }
@@ -170,7 +158,6 @@ fn turn<L: BlockNumber>(
 
 // A run of four thousand calls over an area, which is full again and again.
 fn run<L: BlockNumber>(
-    rt: &impl Abort,
     area: &mut [Bucket<L, u32>],
     rows: &mut [Row<L, u32>],
     seed: u64,
@@ -185,30 +172,28 @@ fn run<L: BlockNumber>(
     };
     for _ in 0..4000 {
         state = step(state);
-        met = turn(rt, &mut map, &mut plain, state, met)?;
+        met = turn(&mut map, &mut plain, state, met)?;
     }
-    assert_eq!(rt; map.count(), plain.count());
-    well_kept(rt, area);
+    check_eq(map.count(), plain.count())?;
+    well_kept(area)?;
     Ok(met)
 }
 
-fn is_telling(rt: &impl Abort, met: Met) {
-    assert!(rt; met.full >= 500 && met.crowded >= 40);
-    assert!(rt; met.moves >= 3);
+fn is_telling(met: Met) -> Result<(), Fail> {
+    check(met.full >= 500 && met.crowded >= 40)?;
+    check(met.moves >= 3)
 }
 
 #[test]
-fn a_run_of_old_line_labels(rt: HostRuntime) -> Result<(), Fail> {
+fn a_run_of_old_line_labels() -> Result<(), Fail> {
     let mut area = [blank(OldBlock(0), 0); 8];
     let mut rows = [blank_row(OldBlock(0), 0); 256];
-    is_telling(&rt, run(&rt, &mut area, &mut rows, 1)?);
-    Ok(())
+    is_telling(run(&mut area, &mut rows, 1)?)
 }
 
 #[test]
-fn a_run_of_new_line_labels(rt: HostRuntime) -> Result<(), Fail> {
+fn a_run_of_new_line_labels() -> Result<(), Fail> {
     let mut area = [blank(NewBlock(0), 0); 8];
     let mut rows = [blank_row(NewBlock(0), 0); 256];
-    is_telling(&rt, run(&rt, &mut area, &mut rows, 1)?);
-    Ok(())
+    is_telling(run(&mut area, &mut rows, 1)?)
 }

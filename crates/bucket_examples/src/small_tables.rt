@@ -4,8 +4,9 @@ use bucket::{Bucket, Slot};
 use bucket_map::BucketMap;
 use insertion::Stored;
 use label::OldBlock;
-use std::process::Abort;
 use table::Found;
+use crate::checks::{check, check_eq};
+use std::test::*;
 
 fn pair_of_blanks() -> [Bucket<OldBlock, u32>; 2] {
     [blank(OldBlock(0), 0); 2]
@@ -22,33 +23,34 @@ fn held(number: u32, tag: u16) -> Slot<OldBlock, u32> {
 }
 
 // Puts each label, and sees that none needs a move.
-fn adds(rt: &impl Abort, map: &mut BucketMap<OldBlock, u32>, numbers: &[u32]) {
+fn adds(map: &mut BucketMap<OldBlock, u32>, numbers: &[u32]) -> Result<(), Fail> {
     for n in numbers.iter() {
-        assert_eq!(rt; map.put(OldBlock(*n), n.wrapping_mul(10)), Stored::Added(0));
+        check_eq(map.put(OldBlock(*n), n.wrapping_mul(10)), Stored::Added(0))?;
     }
+    Ok(())
 }
 
 #[test]
-fn a_fifth_label_goes_to_its_second_bucket(rt: HostRuntime) {
+fn a_fifth_label_goes_to_its_second_bucket() -> Result<(), Fail> {
     let mut area = pair_of_blanks();
     let mut map = BucketMap::new(&mut area);
-    adds(&rt, &mut map, &[0, 2, 4, 6, 256]);
-    assert_eq!(rt; area[1].s0, held(256, 0));
-    assert_eq!(rt; area[0].moved, 1);
-    assert_eq!(rt; area[0].filter, 1);
+    adds(&mut map, &[0, 2, 4, 6, 256])?;
+    check_eq(area[1].s0, held(256, 0))?;
+    check_eq(area[0].moved, 1)?;
+    check_eq(area[0].filter, 1)
 }
 
 #[test]
-fn a_label_moves_to_its_second_bucket_for_another(rt: HostRuntime) {
+fn a_label_moves_to_its_second_bucket_for_another() -> Result<(), Fail> {
     let mut area = pair_of_blanks();
     let mut map = BucketMap::new(&mut area);
-    adds(&rt, &mut map, &[256, 0, 2, 4]);
-    assert_eq!(rt; map.put(OldBlock(6), 60), Stored::Added(1));
-    assert_eq!(rt; area[0].s0, held(6, 1536));
-    assert_eq!(rt; area[0].s1, held(0, 0));
-    assert_eq!(rt; area[0].s2, held(2, 512));
-    assert_eq!(rt; area[0].s3, held(4, 1024));
-    assert_eq!(rt; area[1].s0, held(256, 0));
+    adds(&mut map, &[256, 0, 2, 4])?;
+    check_eq(map.put(OldBlock(6), 60), Stored::Added(1))?;
+    check_eq(area[0].s0, held(6, 1536))?;
+    check_eq(area[0].s1, held(0, 0))?;
+    check_eq(area[0].s2, held(2, 512))?;
+    check_eq(area[0].s3, held(4, 1024))?;
+    check_eq(area[1].s0, held(256, 0))
 }
 
 // The area once the labels are put, and no more is asked.
@@ -61,35 +63,35 @@ fn area_with(numbers: &[u32]) -> [Bucket<OldBlock, u32>; 2] {
     area
 }
 
-fn is_full_for_eight(rt: &impl Abort, numbers: &[u32]) {
+fn is_full_for_eight(numbers: &[u32]) -> Result<(), Fail> {
     let mut area = pair_of_blanks();
     let mut map = BucketMap::new(&mut area);
     for n in numbers.iter() {
-        assert!(rt; map.ask(OldBlock(*n)));
-        assert_ne!(rt; map.put(OldBlock(*n), n.wrapping_mul(10)), Stored::Full);
+        check(map.ask(OldBlock(*n)))?;
+        check_ne(map.put(OldBlock(*n), n.wrapping_mul(10)), Stored::Full)?;
     }
-    assert!(rt; !map.ask(OldBlock(8)));
-    assert_eq!(rt; map.put(OldBlock(8), 80), Stored::Full);
-    assert!(rt; !map.ask(OldBlock(8)));
-    assert_eq!(rt; map.count(), 5);
-    assert_eq!(rt; area, area_with(numbers));
+    check(!map.ask(OldBlock(8)))?;
+    check_eq(map.put(OldBlock(8), 80), Stored::Full)?;
+    check(!map.ask(OldBlock(8)))?;
+    check_eq(map.count(), 5)?;
+    check_eq(area, area_with(numbers))
 }
 
 #[test]
-fn a_full_answer_leaves_the_area_as_it_was(rt: HostRuntime) {
-    is_full_for_eight(&rt, &[0, 2, 4, 6, 256]);
-    is_full_for_eight(&rt, &[256, 0, 2, 4, 6]);
+fn a_full_answer_leaves_the_area_as_it_was() -> Result<(), Fail> {
+    is_full_for_eight(&[0, 2, 4, 6, 256])?;
+    is_full_for_eight(&[256, 0, 2, 4, 6])
 }
 
 #[test]
-fn a_yes_leaves_the_area_as_it_was(rt: HostRuntime) {
+fn a_yes_leaves_the_area_as_it_was() -> Result<(), Fail> {
     let mut area = pair_of_blanks();
     let mut map = BucketMap::new(&mut area);
-    adds(&rt, &mut map, &[256, 0, 2, 4]);
-    assert!(rt; map.ask(OldBlock(6)));
-    assert!(rt; map.ask(OldBlock(1)));
-    assert!(rt; map.ask(OldBlock(256)));
-    assert_eq!(rt; area, area_with(&[256, 0, 2, 4]));
+    adds(&mut map, &[256, 0, 2, 4])?;
+    check(map.ask(OldBlock(6)))?;
+    check(map.ask(OldBlock(1)))?;
+    check(map.ask(OldBlock(256)))?;
+    check_eq(area, area_with(&[256, 0, 2, 4]))
 }
 
 fn nothing_after(read: u8) -> Found<u32> {
@@ -101,106 +103,106 @@ fn nothing_after(read: u8) -> Found<u32> {
 
 // The filter has the mask of 768, as it has that of 256.
 #[test]
-fn a_filter_sends_a_find_on_while_a_label_is_elsewhere(rt: HostRuntime) {
+fn a_filter_sends_a_find_on_while_a_label_is_elsewhere() -> Result<(), Fail> {
     let mut area = pair_of_blanks();
     let mut map = BucketMap::new(&mut area);
-    adds(&rt, &mut map, &[0, 2, 4, 6, 256]);
-    assert_eq!(rt; map.find(OldBlock(768)), nothing_after(2));
-    assert_eq!(rt; map.take(OldBlock(256)), Some(2560));
-    assert_eq!(rt; map.find(OldBlock(768)), nothing_after(1));
-    assert_eq!(rt; map.find(OldBlock(256)), nothing_after(1));
-    assert_eq!(rt; area[0].moved, 0);
-    assert_eq!(rt; area[0].filter, 0);
+    adds(&mut map, &[0, 2, 4, 6, 256])?;
+    check_eq(map.find(OldBlock(768)), nothing_after(2))?;
+    check_eq(map.take(OldBlock(256)), Some(2560))?;
+    check_eq(map.find(OldBlock(768)), nothing_after(1))?;
+    check_eq(map.find(OldBlock(256)), nothing_after(1))?;
+    check_eq(area[0].moved, 0)?;
+    check_eq(area[0].filter, 0)
 }
 
 #[test]
-fn a_filter_without_the_mask_ends_a_find(rt: HostRuntime) {
+fn a_filter_without_the_mask_ends_a_find() -> Result<(), Fail> {
     let mut area = pair_of_blanks();
     let mut map = BucketMap::new(&mut area);
-    adds(&rt, &mut map, &[0, 2, 4, 6, 256]);
-    assert_eq!(rt; map.find(OldBlock(131328)), nothing_after(1));
-    assert_eq!(rt;
+    adds(&mut map, &[0, 2, 4, 6, 256])?;
+    check_eq(map.find(OldBlock(131328)), nothing_after(1))?;
+    check_eq(
         map.find(OldBlock(256)),
         Found {
             payload: Some(2560),
             read: 2,
-        }
-    );
-    assert_eq!(rt;
+        },
+    )?;
+    check_eq(
         map.find(OldBlock(6)),
         Found {
             payload: Some(60),
             read: 1,
-        }
-    );
+        },
+    )
 }
 
 #[test]
-fn one_bucket_has_room_for_four(rt: HostRuntime) {
+fn one_bucket_has_room_for_four() -> Result<(), Fail> {
     let mut area = [blank(OldBlock(0), 0); 1];
     let mut map = BucketMap::new(&mut area);
-    adds(&rt, &mut map, &[1, 256, 3, 65536]);
-    assert!(rt; !map.ask(OldBlock(5)));
-    assert_eq!(rt; map.put(OldBlock(5), 50), Stored::Full);
-    assert_eq!(rt; map.find(OldBlock(5)), nothing_after(1));
-    assert_eq!(rt; map.count(), 4);
-    assert_eq!(rt; area[0].moved, 0);
-    assert_eq!(rt; area[0].filter, 0);
+    adds(&mut map, &[1, 256, 3, 65536])?;
+    check(!map.ask(OldBlock(5)))?;
+    check_eq(map.put(OldBlock(5), 50), Stored::Full)?;
+    check_eq(map.find(OldBlock(5)), nothing_after(1))?;
+    check_eq(map.count(), 4)?;
+    check_eq(area[0].moved, 0)?;
+    check_eq(area[0].filter, 0)
 }
 
 #[test]
-fn a_held_label_gets_a_new_payload_where_others_find_it_full(rt: HostRuntime) {
+fn a_held_label_gets_a_new_payload_where_others_find_it_full() -> Result<(), Fail> {
     let mut area = pair_of_blanks();
     let mut map = BucketMap::new(&mut area);
-    adds(&rt, &mut map, &[0, 2, 4, 6, 256]);
-    assert_eq!(rt; map.put(OldBlock(8), 80), Stored::Full);
-    assert!(rt; map.ask(OldBlock(2)) && map.ask(OldBlock(256)));
-    assert_eq!(rt; map.put(OldBlock(2), 21), Stored::Replaced(20));
-    assert_eq!(rt; map.put(OldBlock(256), 9), Stored::Replaced(2560));
-    assert_eq!(rt; map.put(OldBlock(256), 8), Stored::Replaced(9));
-    assert_eq!(rt; map.find(OldBlock(2)).payload, Some(21));
-    assert_eq!(rt; map.find(OldBlock(256)).payload, Some(8));
-    assert_eq!(rt; map.count(), 5);
-    assert_eq!(rt; area[0].moved, 1);
-    assert_eq!(rt; area[0].s1.payload, 21);
+    adds(&mut map, &[0, 2, 4, 6, 256])?;
+    check_eq(map.put(OldBlock(8), 80), Stored::Full)?;
+    check(map.ask(OldBlock(2)) && map.ask(OldBlock(256)))?;
+    check_eq(map.put(OldBlock(2), 21), Stored::Replaced(20))?;
+    check_eq(map.put(OldBlock(256), 9), Stored::Replaced(2560))?;
+    check_eq(map.put(OldBlock(256), 8), Stored::Replaced(9))?;
+    check_eq(map.find(OldBlock(2)).payload, Some(21))?;
+    check_eq(map.find(OldBlock(256)).payload, Some(8))?;
+    check_eq(map.count(), 5)?;
+    check_eq(area[0].moved, 1)?;
+    check_eq(area[0].s1.payload, 21)
 }
 
 #[test]
-fn a_taken_label_leaves_its_traces(rt: HostRuntime) {
+fn a_taken_label_leaves_its_traces() -> Result<(), Fail> {
     let mut area = pair_of_blanks();
     let mut map = BucketMap::new(&mut area);
-    adds(&rt, &mut map, &[2, 4, 6]);
-    assert_eq!(rt; map.take(OldBlock(4)), Some(40));
-    assert_eq!(rt; map.take(OldBlock(4)), None);
-    assert_eq!(rt; map.take(OldBlock(2)), Some(20));
-    assert_eq!(rt; map.count(), 1);
-    assert_eq!(rt;
+    adds(&mut map, &[2, 4, 6])?;
+    check_eq(map.take(OldBlock(4)), Some(40))?;
+    check_eq(map.take(OldBlock(4)), None)?;
+    check_eq(map.take(OldBlock(2)), Some(20))?;
+    check_eq(map.count(), 1)?;
+    check_eq(
         area[0].s0,
         Slot {
             used: false,
             ..held(2, 512)
-        }
-    );
-    assert_eq!(rt;
+        },
+    )?;
+    check_eq(
         area[0].s1,
         Slot {
             used: false,
             ..held(4, 1024)
-        }
-    );
-    assert_eq!(rt; area[0].s2, held(6, 1536));
+        },
+    )?;
+    check_eq(area[0].s2, held(6, 1536))
 }
 
 #[test]
-fn the_lowest_unused_slot_is_next(rt: HostRuntime) {
+fn the_lowest_unused_slot_is_next() -> Result<(), Fail> {
     let mut area = pair_of_blanks();
     let mut map = BucketMap::new(&mut area);
-    adds(&rt, &mut map, &[2, 4, 6]);
-    assert_eq!(rt; map.take(OldBlock(4)), Some(40));
-    assert_eq!(rt; map.take(OldBlock(2)), Some(20));
-    adds(&rt, &mut map, &[8, 10, 12]);
-    assert_eq!(rt; area[0].s0, held(8, 2048));
-    assert_eq!(rt; area[0].s1, held(10, 2560));
-    assert_eq!(rt; area[0].s2, held(6, 1536));
-    assert_eq!(rt; area[0].s3, held(12, 3072));
+    adds(&mut map, &[2, 4, 6])?;
+    check_eq(map.take(OldBlock(4)), Some(40))?;
+    check_eq(map.take(OldBlock(2)), Some(20))?;
+    adds(&mut map, &[8, 10, 12])?;
+    check_eq(area[0].s0, held(8, 2048))?;
+    check_eq(area[0].s1, held(10, 2560))?;
+    check_eq(area[0].s2, held(6, 1536))?;
+    check_eq(area[0].s3, held(12, 3072))
 }

@@ -2,7 +2,8 @@
 use crate::blanks::NO_MARK;
 use bucket::{Bucket, Slot};
 use label::Label;
-use std::process::Abort;
+use crate::checks::{check, check_eq};
+use std::test::*;
 
 // The first bucket of a digest, of so many.
 pub(crate) fn first(digest: u64, size: u64) -> u64 {
@@ -52,26 +53,27 @@ fn away_from<L: Label>(area: &[Bucket<L, u32>], home: usize) -> Away {
 }
 
 // A used slot has the tag of its label, and lies in one of the label's buckets.
-fn lies_right<L: Label>(rt: &impl Abort, slot: Slot<L, u32>, i: u64, size: u64) {
+fn lies_right<L: Label>(slot: Slot<L, u32>, i: u64, size: u64) -> Result<(), Fail> {
     let digest = slot.label.digest();
-    assert!(rt; !slot.used || slot.tag as u64 == digest / 281474976710656);
-    assert!(rt; !slot.used || first(digest, size) == i || second(digest, size) == i);
+    check(!slot.used || slot.tag as u64 == digest / 281474976710656)?;
+    check(!slot.used || first(digest, size) == i || second(digest, size) == i)
 }
 
 // The count is that of the labels elsewhere, the filter has their bits, and no mark is left.
-fn is_kept<L: Label>(rt: &impl Abort, bucket: &Bucket<L, u32>, away: Away) {
-    assert_eq!(rt; bucket.moved, away.count);
-    assert!(rt; bucket.filter & away.bits == away.bits);
-    assert!(rt; away.count > 0 || bucket.filter == 0);
-    assert_eq!(rt; bucket.mark, NO_MARK);
+fn is_kept<L: Label>(bucket: &Bucket<L, u32>, away: Away) -> Result<(), Fail> {
+    check_eq(bucket.moved, away.count)?;
+    check(bucket.filter & away.bits == away.bits)?;
+    check(away.count > 0 || bucket.filter == 0)?;
+    check_eq(bucket.mark, NO_MARK)
 }
 
-pub(crate) fn well_kept<L: Label>(rt: &impl Abort, area: &[Bucket<L, u32>]) {
+pub(crate) fn well_kept<L: Label>(area: &[Bucket<L, u32>]) -> Result<(), Fail> {
     let size = area.len() as u64;
     for (i, bucket) in area.iter().enumerate() {
         for k in 0..4 {
-            lies_right(rt, bucket.slot(k), i as u64, size);
+            lies_right(bucket.slot(k), i as u64, size)?;
         }
-        is_kept(rt, bucket, away_from(area, i));
+        is_kept(bucket, away_from(area, i))?;
     }
+    Ok(())
 }

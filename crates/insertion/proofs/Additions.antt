@@ -95,7 +95,7 @@ module _ {L V : Type 0} (kind : Ghosts L) (bs : List (Bucket L V)) (n : ℕ) (t 
       where
         inside : (q : ℕ) → beside (look kind bs) n q ≡ true → held (look kind es) q ≡ true
         inside q h =
-            ap is_some (added_look q)
+            ap is_some (added_look q ∙ ap (λ b. cond b (Some v) (look kind bs q)) (eqb_swap n q))
             ∙ ⊎_elim
             (λ y. ap is_some (cond-true (eqb q n) (Some v) (look kind bs q) y))
             (λ y. ap is_some (cond-false (eqb q n) (Some v) (look kind bs q) y) ∙ sym (cond-false (eqb q n) true (is_some (look kind bs q)) y) ∙ h)

@@ -1,8 +1,9 @@
 // The straight map over right areas and wrong ones.
+use crate::checks::{check, check_eq};
 use label::{OldBlock, StreamLabel};
 use map::{Denied, Map};
 use refusal::Refusal;
-use std::process::Abort;
+use std::test::*;
 use straight::{Row, StraightMap};
 
 #[derive(Clone, Copy, PartialEq, Eq, Debug)]
@@ -34,60 +35,60 @@ const QUIET: Row<StreamLabel, Span> = Row {
 };
 
 #[test]
-fn checked_sizes(rt: HostRuntime) {
+fn checked_sizes() -> Result<(), Fail> {
     let none: [Row<OldBlock, u32>; 0] = [];
-    assert_eq!(rt; straight::check(&none), Err(Refusal::BadSize));
-    assert_eq!(rt; straight::check(&[BLANK; 1]), Ok(()));
-    assert_eq!(rt; straight::check(&[BLANK; 256]), Ok(()));
-    assert_eq!(rt; straight::check(&[BLANK; 257]), Err(Refusal::BadSize));
+    check_eq(straight::check(&none), Err(Refusal::BadSize))?;
+    check_eq(straight::check(&[BLANK; 1]), Ok(()))?;
+    check_eq(straight::check(&[BLANK; 256]), Ok(()))?;
+    check_eq(straight::check(&[BLANK; 257]), Err(Refusal::BadSize))
 }
 
 #[test]
-fn one_row(rt: HostRuntime) {
+fn one_row() -> Result<(), Fail> {
     let mut area = [USED; 1];
     let mut map = StraightMap::new(&mut area);
-    assert_eq!(rt; map.count(), 0);
-    assert_eq!(rt; map.find(OldBlock(9)), None);
-    assert_eq!(rt; map.put(OldBlock(5), 50), Ok(None));
-    assert_eq!(rt; map.put(OldBlock(5), 51), Ok(Some(50)));
-    assert!(rt; map.ask(OldBlock(5)) && !map.ask(OldBlock(6)));
-    assert_eq!(rt; map.put(OldBlock(6), 60), Err(Denied::Full));
-    assert_eq!(rt; map.find(OldBlock(5)), Some(51));
-    assert_eq!(rt; map.take(OldBlock(5)), Some(51));
-    assert_eq!(rt; map.take(OldBlock(5)), None);
-    assert!(rt; !area[0].used && area[0].payload == 51);
+    check_eq(map.count(), 0)?;
+    check_eq(map.find(OldBlock(9)), None)?;
+    check_eq(map.put(OldBlock(5), 50), Ok(None))?;
+    check_eq(map.put(OldBlock(5), 51), Ok(Some(50)))?;
+    check(map.ask(OldBlock(5)) && !map.ask(OldBlock(6)))?;
+    check_eq(map.put(OldBlock(6), 60), Err(Denied::Full))?;
+    check_eq(map.find(OldBlock(5)), Some(51))?;
+    check_eq(map.take(OldBlock(5)), Some(51))?;
+    check_eq(map.take(OldBlock(5)), None)?;
+    check(!area[0].used && area[0].payload == 51)
 }
 
 #[test]
-fn first_unused_row_is_reused(rt: HostRuntime) {
+fn first_unused_row_is_reused() -> Result<(), Fail> {
     let mut area = [BLANK; 3];
     let mut map = StraightMap::new(&mut area);
-    assert_eq!(rt; map.put(OldBlock(1), 10), Ok(None));
-    assert_eq!(rt; map.put(OldBlock(2), 20), Ok(None));
-    assert_eq!(rt; map.put(OldBlock(3), 30), Ok(None));
-    assert_eq!(rt; map.take(OldBlock(2)), Some(20));
-    assert_eq!(rt; map.take(OldBlock(1)), Some(10));
-    assert_eq!(rt; map.put(OldBlock(4), 40), Ok(None));
-    assert_eq!(rt; map.count(), 2);
-    assert!(rt; area[0].used && area[0].payload == 40);
-    assert!(rt; !area[1].used && area[1].payload == 20);
-    assert!(rt; area[2].used && area[2].payload == 30);
+    check_eq(map.put(OldBlock(1), 10), Ok(None))?;
+    check_eq(map.put(OldBlock(2), 20), Ok(None))?;
+    check_eq(map.put(OldBlock(3), 30), Ok(None))?;
+    check_eq(map.take(OldBlock(2)), Some(20))?;
+    check_eq(map.take(OldBlock(1)), Some(10))?;
+    check_eq(map.put(OldBlock(4), 40), Ok(None))?;
+    check_eq(map.count(), 2)?;
+    check(area[0].used && area[0].payload == 40)?;
+    check(!area[1].used && area[1].payload == 20)?;
+    check(area[2].used && area[2].payload == 30)
 }
 
 #[test]
-fn all_rows_of_the_largest_area(rt: HostRuntime) {
+fn all_rows_of_the_largest_area() -> Result<(), Fail> {
     let mut area = [USED; 256];
     let mut map = StraightMap::new(&mut area);
     for n in 0..256 {
-        assert_eq!(rt; map.put(OldBlock(n), 2 * n), Ok(None));
+        check_eq(map.put(OldBlock(n), 2 * n), Ok(None))?;
     }
-    assert_eq!(rt; map.put(OldBlock(256), 0), Err(Denied::Full));
-    assert_eq!(rt; map.put(OldBlock(255), 1), Ok(Some(510)));
-    assert_eq!(rt; map.count(), 256);
+    check_eq(map.put(OldBlock(256), 0), Err(Denied::Full))?;
+    check_eq(map.put(OldBlock(255), 1), Ok(Some(510)))?;
+    check_eq(map.count(), 256)
 }
 
 #[test]
-fn spans_by_stream(rt: HostRuntime) {
+fn spans_by_stream() -> Result<(), Fail> {
     let mut area = [QUIET; 3];
     let mut map = StraightMap::new(&mut area);
     let a = StreamLabel {
@@ -100,8 +101,8 @@ fn spans_by_stream(rt: HostRuntime) {
         channel: 2,
         session: 1,
     };
-    assert_eq!(rt; map.put(a, Span { first: 8, count: 2 }), Ok(None));
-    assert_eq!(rt;
+    check_eq(map.put(a, Span { first: 8, count: 2 }), Ok(None))?;
+    check_eq(
         map.put(
             b,
             Span {
@@ -109,34 +110,34 @@ fn spans_by_stream(rt: HostRuntime) {
                 count: 1,
             },
         ),
-        Ok(None)
-    );
-    assert_eq!(rt; map.find(a), Some(Span { first: 8, count: 2 }));
-    assert_eq!(rt;
+        Ok(None),
+    )?;
+    check_eq(map.find(a), Some(Span { first: 8, count: 2 }))?;
+    check_eq(
         map.take(b),
         Some(Span {
             first: 10,
             count: 1,
-        })
-    );
-    assert_eq!(rt; map.count(), 1);
+        }),
+    )?;
+    check_eq(map.count(), 1)
 }
 
 // A map by its interface alone, which takes nothing.
-fn refuses<M: Map<OldBlock, u32>>(rt: &impl Abort, map: &mut M) {
-    assert!(rt; !map.ask(OldBlock(9)));
-    assert_eq!(rt; map.put(OldBlock(9), 1), Err(Denied::Full));
-    assert_eq!(rt; map.find(OldBlock(9)), None);
-    assert_eq!(rt; map.take(OldBlock(9)), None);
-    assert_eq!(rt; map.count(), 0);
+fn refuses<M: Map<OldBlock, u32>>(map: &mut M) -> Result<(), Fail> {
+    check(!map.ask(OldBlock(9)))?;
+    check_eq(map.put(OldBlock(9), 1), Err(Denied::Full))?;
+    check_eq(map.find(OldBlock(9)), None)?;
+    check_eq(map.take(OldBlock(9)), None)?;
+    check_eq(map.count(), 0)
 }
 
 #[test]
-fn wrong_areas_hold_nothing(rt: HostRuntime) {
+fn wrong_areas_hold_nothing() -> Result<(), Fail> {
     let mut none: [Row<OldBlock, u32>; 0] = [];
-    refuses(&rt, &mut StraightMap::new(&mut none));
+    refuses(&mut StraightMap::new(&mut none))?;
     let mut area = [USED; 257];
-    refuses(&rt, &mut StraightMap::new(&mut area));
-    assert!(rt; area[0].used && area[0].payload == 90);
-    assert!(rt; area[256].used && area[256].payload == 90);
+    refuses(&mut StraightMap::new(&mut area))?;
+    check(area[0].used && area[0].payload == 90)?;
+    check(area[256].used && area[256].payload == 90)
 }

@@ -2,6 +2,7 @@
 ghost use Rattle.blocks.specs.Service.{Goes, Faulty, Finishes, Back, end_call, ended, plain};
 ghost use Rattle.service_examples.specs.Holding.{Ready, Keeps};
 
+use crate::checks::{check_eq, check_row};
 use blocks::{Blocks, Grant, Mark, check as check_sizes};
 use entry::Ending;
 use label::{BlockNumber, OldBlock, StreamLabel};
@@ -9,7 +10,6 @@ use listing::{Outcome, obey};
 use map::Map;
 use refusal::Refusal;
 use rules::{Entry, Position};
-use std::process::Abort;
 use std::test::*;
 use straight::{Row, StraightMap};
 use tape::Call;
@@ -132,7 +132,6 @@ fn probe<'a, L: BlockNumber, B: Map<L, Entry>, S: Map<StreamLabel, Position>>(
 
 // Each ask has its answer.
 fn probes<'a, L: BlockNumber, B: Map<L, Entry>, S: Map<StreamLabel, Position>>(
-    rt: &impl Abort,
     service: &mut Blocks<'a, L, B, S>,
     rows: &[(Ask, Answer)],
 ) -> Result<(), Fail>
@@ -141,37 +140,33 @@ fn probes<'a, L: BlockNumber, B: Map<L, Entry>, S: Map<StreamLabel, Position>>(
 {
     for i in 0..rows.len() {
         let (ask, answer) = rows[i];
-        assert_eq!(rt; probe(service, ask), answer, "row {i}");
+        check_row(i, probe(service, ask), answer)?;
     }
     Ok(())
 }
 
 // The same, and the service may be asked on.
 pub(crate) fn says<'a, L: BlockNumber, B: Map<L, Entry>, S: Map<StreamLabel, Position>>(
-    rt: &impl Abort,
     service: &mut Blocks<'a, L, B, S>,
     rows: &[(Ask, Answer)],
 ) -> Result<(), Fail>
     requires { Ready B.Map S.Map service.old }
     ensures { Ready B.Map S.Map service.new }
 {
-    probes(rt, service, rows)
+    probes(service, rows)
 }
 
 fn agree(
-    rt: &impl Abort,
     before: Result<(), Fail>,
     left: ((u32, u32), u32),
     right: ((u32, u32), u32),
 ) -> Result<(), Fail> {
     before?;
-    assert_eq!(rt; left, right);
-    Ok(())
+    check_eq(left, right)
 }
 
 // A begin that is granted the block, the rows while it is out, and its ending.
 pub(crate) fn out<'a, L: BlockNumber, B: Map<L, Entry>, S: Map<StreamLabel, Position>>(
-    rt: &impl Abort,
     service: &mut Blocks<'a, L, B, S>,
     n: u32,
     block: u32,
@@ -184,9 +179,9 @@ pub(crate) fn out<'a, L: BlockNumber, B: Map<L, Entry>, S: Map<StreamLabel, Posi
     match service.begin(n) {
         Ok(grant) => {
             let given = (grant.number(), grant.block());
-            let all = probes(rt, service, rows);
+            let all = probes(service, rows);
             match finish(service, grant, ending) {
-                Ok(ended) => agree(rt, all, (given, ended), ((n, block), block)),
+                Ok(ended) => agree(all, (given, ended), ((n, block), block)),
                 Err((_, _grant)) => all,
             }
         }
@@ -196,7 +191,6 @@ pub(crate) fn out<'a, L: BlockNumber, B: Map<L, Entry>, S: Map<StreamLabel, Posi
 
 // A grant of one service is shown to another, which refuses it with the number and hands it back.
 fn foreign<'a, 'b, L: BlockNumber, B: Map<L, Entry>, S: Map<StreamLabel, Position>>(
-    rt: &impl Abort,
     own: &mut Blocks<'a, L, B, S>,
     other: &mut Blocks<'b, L, B, S>,
     n: u32,
@@ -215,7 +209,6 @@ fn foreign<'a, 'b, L: BlockNumber, B: Map<L, Entry>, S: Map<StreamLabel, Positio
                     let back = (same.number(), same.block());
                     match finish(own, same, Ending::Abandon) {
                         Ok(_block) => agree(
-                            rt,
                             Ok(()),
                             (back, u32::from(refusal.number())),
                             (given, u32::from(number)),
@@ -231,7 +224,6 @@ fn foreign<'a, 'b, L: BlockNumber, B: Map<L, Entry>, S: Map<StreamLabel, Positio
 
 // The same for each ending; neither service is changed by it.
 pub(crate) fn foreign_each<'a, 'b, L: BlockNumber, B: Map<L, Entry>, S: Map<StreamLabel, Position>>(
-    rt: &impl Abort,
     own: &mut Blocks<'a, L, B, S>,
     other: &mut Blocks<'b, L, B, S>,
     number: u8,
@@ -239,16 +231,15 @@ pub(crate) fn foreign_each<'a, 'b, L: BlockNumber, B: Map<L, Entry>, S: Map<Stre
 ) -> Result<(), Fail>
     requires { Ready B.Map S.Map own.old }
 {
-    foreign(rt, own, other, 7, Ending::Commit, number)?;
-    foreign(rt, own, other, 7, Ending::Abandon, number)?;
-    foreign(rt, own, other, 7, Ending::Condemn, number)?;
-    assert_eq!(rt; told(obey(other, Call::Tally)), tally);
-    says(rt, own, &[(Ask::Tally, Answer::Counts(1, 0, 0, 0))])
+    foreign(own, other, 7, Ending::Commit, number)?;
+    foreign(own, other, 7, Ending::Abandon, number)?;
+    foreign(own, other, 7, Ending::Condemn, number)?;
+    check_eq(told(obey(other, Call::Tally)), tally)?;
+    says(own, &[(Ask::Tally, Answer::Counts(1, 0, 0, 0))])
 }
 
 // A fresh service answers the rows.
 pub(crate) fn runs(
-    rt: &impl Abort,
     limit: u32,
     cells: &mut [u32],
     marks: &mut [Mark],
@@ -259,7 +250,7 @@ pub(crate) fn runs(
     let entries = StraightMap::new(entry_rows);
     let streams = StraightMap::new(&mut stream_rows);
     let mut service = make::<OldBlock, _, _>(limit, cells, marks, entries, streams);
-    says(rt, &mut service, rows)
+    says(&mut service, rows)
 }
 
 // A grant that a service is to give, and how it is to end.
@@ -272,7 +263,6 @@ pub struct Change {
 
 // A fresh service answers the rows before a grant, while it is out, and after its ending.
 pub(crate) fn runs_out(
-    rt: &impl Abort,
     limit: u32,
     cells: &mut [u32],
     marks: &mut [Mark],
@@ -286,16 +276,15 @@ pub(crate) fn runs_out(
     let entries = StraightMap::new(entry_rows);
     let streams = StraightMap::new(&mut stream_rows);
     let mut service = make::<OldBlock, _, _>(limit, cells, marks, entries, streams);
-    says(rt, &mut service, before)?;
+    says(&mut service, before)?;
     out(
-        rt,
         &mut service,
         change.number,
         change.block,
         meanwhile,
         change.ending,
     )?;
-    says(rt, &mut service, after)
+    says(&mut service, after)
 }
 
 // The check refuses, and so does every call.
@@ -304,7 +293,6 @@ pub(crate) fn refuses<
     B: Map<L, Entry> + Drop,
     S: Map<StreamLabel, Position> + Drop,
 >(
-    rt: &impl Abort,
     limit: u32,
     cells: &mut [u32],
     marks: &mut [Mark],
@@ -317,11 +305,10 @@ pub(crate) fn refuses<
     let mut entries = entries;
     let mut streams = streams;
     let verdict = check_sizes::<L, B, S>(limit, cells, marks, &mut entries, &mut streams);
-    assert_eq!(rt; verdict, Err(refusal));
+    check_eq(verdict, Err(refusal))?;
     let answer = Answer::Refused(refusal.number());
     let mut service = make::<L, B, S>(limit, cells, marks, entries, streams);
     says(
-        rt,
         &mut service,
         &[
             (Ask::Begin(0, Ending::Commit), answer),

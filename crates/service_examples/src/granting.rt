@@ -5,9 +5,8 @@ use entry::Ending;
 use std::test::*;
 
 #[test]
-fn a_number_at_the_bound(rt: HostRuntime) -> Result<(), Fail> {
+fn a_number_at_the_bound() -> Result<(), Fail> {
     runs(
-        &rt,
         16,
         &mut [9; 1],
         &mut [Mark::Condemned; 1],
@@ -23,9 +22,8 @@ fn a_number_at_the_bound(rt: HostRuntime) -> Result<(), Fail> {
 }
 
 #[test]
-fn a_change_keeps_the_old_block(rt: HostRuntime) -> Result<(), Fail> {
+fn a_change_keeps_the_old_block() -> Result<(), Fail> {
     runs_out(
-        &rt,
         16,
         &mut [9; 2],
         &mut [Mark::Condemned; 2],
@@ -51,9 +49,8 @@ fn a_change_keeps_the_old_block(rt: HostRuntime) -> Result<(), Fail> {
 
 // With its only block out, a busy number is busy first, and no block waits for any other.
 #[test]
-fn busy_before_no_block(rt: HostRuntime) -> Result<(), Fail> {
+fn busy_before_no_block() -> Result<(), Fail> {
     runs_out(
-        &rt,
         16,
         &mut [9; 1],
         &mut [Mark::Condemned; 1],
@@ -78,9 +75,8 @@ fn busy_before_no_block(rt: HostRuntime) -> Result<(), Fail> {
 }
 
 #[test]
-fn a_full_map(rt: HostRuntime) -> Result<(), Fail> {
+fn a_full_map() -> Result<(), Fail> {
     runs_out(
-        &rt,
         16,
         &mut [9; 2],
         &mut [Mark::Condemned; 2],
@@ -106,9 +102,8 @@ fn a_full_map(rt: HostRuntime) -> Result<(), Fail> {
 
 // The front block goes out, and comes back behind those that wait.
 #[test]
-fn blocks_take_turns(rt: HostRuntime) -> Result<(), Fail> {
+fn blocks_take_turns() -> Result<(), Fail> {
     runs(
-        &rt,
         16,
         &mut [9; 1],
         &mut [Mark::Condemned; 1],
@@ -119,7 +114,6 @@ fn blocks_take_turns(rt: HostRuntime) -> Result<(), Fail> {
         ],
     )?;
     runs(
-        &rt,
         16,
         &mut [9; 3],
         &mut [Mark::Condemned; 3],

@@ -4,6 +4,8 @@
 #[cfg(test)]
 mod card;
 #[cfg(test)]
+mod checks;
+#[cfg(test)]
 mod granting;
 #[cfg(test)]
 mod listings;

@@ -1,5 +1,6 @@
 // Tapes played on the bench's card, and on a service that was refused.
 use crate::card::{BLANK, QUIET};
+use crate::checks::{check, check_eq};
 use bench_card::list_tape;
 use blocks::{Blocks, Mark};
 use label::OldBlock;
@@ -9,13 +10,12 @@ use straight::StraightMap;
 
 fn reads(rt: &HostRuntime, line: &Line, expected: &str) -> Result<(), Fail> {
     let text = format!(in rt.alloc(); "{line}")?;
-    assert_eq!(text.as_str(), expected);
-    Ok(())
+    check_eq(text.as_str(), expected)
 }
 
 // The lines read just so.
 fn read(rt: &HostRuntime, lines: &[Line], expected: &[&str]) -> Result<(), Fail> {
-    assert!(lines.len() == expected.len());
+    check(lines.len() == expected.len())?;
     for i in 0..lines.len() {
         reads(rt, &lines[i], expected[i])?;
     }
@@ -71,7 +71,7 @@ fn nine_writes(rt: HostRuntime) -> Result<(), Fail> {
         tape.extend_from_slice(&[1, 0, 4, 0, 0, 0, n])?;
     }
     let lines = list_tape(tape.as_slice(), rt.alloc())?;
-    assert!(rt; lines.len() == 9);
+    check(lines.len() == 9)?;
     reads(&rt, &lines[7], "49 ok 7")?;
     reads(&rt, &lines[8], "56 fault 3 5")
 }

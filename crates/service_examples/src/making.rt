@@ -5,45 +5,38 @@ use label::OldBlock;
 use map::Map;
 use refusal::Refusal;
 use rules::Entry;
-use std::process::Abort;
 use std::test::*;
 use straight::StraightMap;
 
-fn wrong_size(
-    rt: &impl Abort,
-    limit: u32,
-    cells: &mut [u32],
-    marks: &mut [Mark],
-) -> Result<(), Fail> {
+fn wrong_size(limit: u32, cells: &mut [u32], marks: &mut [Mark]) -> Result<(), Fail> {
     let mut entry_rows = [BLANK; 1];
     let mut stream_rows = [QUIET; 1];
     let entries = StraightMap::new(&mut entry_rows);
     let streams = StraightMap::new(&mut stream_rows);
-    refuses::<OldBlock, _, _>(rt, limit, cells, marks, entries, streams, Refusal::BadSize)
+    refuses::<OldBlock, _, _>(limit, cells, marks, entries, streams, Refusal::BadSize)
 }
 
 #[test]
-fn wrong_sizes(rt: HostRuntime) -> Result<(), Fail> {
-    wrong_size(&rt, 16, &mut [], &mut [])?;
-    wrong_size(&rt, 16, &mut [9; 2], &mut [Mark::Sound; 1])?;
-    wrong_size(&rt, 16, &mut [9; 1], &mut [Mark::Sound; 2])?;
-    wrong_size(&rt, 0, &mut [9; 1], &mut [Mark::Sound; 1])
+fn wrong_sizes() -> Result<(), Fail> {
+    wrong_size(16, &mut [], &mut [])?;
+    wrong_size(16, &mut [9; 2], &mut [Mark::Sound; 1])?;
+    wrong_size(16, &mut [9; 1], &mut [Mark::Sound; 2])?;
+    wrong_size(0, &mut [9; 1], &mut [Mark::Sound; 1])
 }
 
 #[test]
-fn a_block_too_many(rt: HostRuntime) -> Result<(), Fail> {
-    wrong_size(&rt, 16, &mut [9; 4097], &mut [Mark::Sound; 4097])
+fn a_block_too_many() -> Result<(), Fail> {
+    wrong_size(16, &mut [9; 4097], &mut [Mark::Sound; 4097])
 }
 
 #[test]
-fn a_map_that_holds_a_pair(rt: HostRuntime) -> Result<(), Fail> {
+fn a_map_that_holds_a_pair() -> Result<(), Fail> {
     let mut entry_rows = [BLANK; 2];
     let mut stream_rows = [QUIET; 1];
     let mut entries = StraightMap::new(&mut entry_rows);
     let _ = entries.put(OldBlock(5), Entry::Settled(0));
     let streams = StraightMap::new(&mut stream_rows);
     refuses::<OldBlock, _, _>(
-        &rt,
         16,
         &mut [9; 1],
         &mut [Mark::Sound; 1],
@@ -54,7 +47,7 @@ fn a_map_that_holds_a_pair(rt: HostRuntime) -> Result<(), Fail> {
 }
 
 // A grant is shown to another service with the given bound, for each ending.
-fn shown(rt: &impl Abort, limit: u32, number: u8, tally: Answer) -> Result<(), Fail> {
+fn shown(limit: u32, number: u8, tally: Answer) -> Result<(), Fail> {
     let mut cells = [9; 1];
     let mut marks = [Mark::Sound; 1];
     let mut entry_rows = [BLANK; 1];
@@ -75,11 +68,11 @@ fn shown(rt: &impl Abort, limit: u32, number: u8, tally: Answer) -> Result<(), F
         entries,
         streams,
     );
-    foreign_each(rt, &mut own, &mut other, number, tally)
+    foreign_each(&mut own, &mut other, number, tally)
 }
 
 #[test]
-fn a_grant_of_another_service(rt: HostRuntime) -> Result<(), Fail> {
-    shown(&rt, 16, 7, Answer::Counts(1, 0, 0, 0))?;
-    shown(&rt, 0, 1, Answer::Refused(1))
+fn a_grant_of_another_service() -> Result<(), Fail> {
+    shown(16, 7, Answer::Counts(1, 0, 0, 0))?;
+    shown(0, 1, Answer::Refused(1))
 }

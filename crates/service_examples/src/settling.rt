@@ -4,9 +4,8 @@ use blocks::Mark;
 use std::test::*;
 
 #[test]
-fn reads_and_trims(rt: HostRuntime) -> Result<(), Fail> {
+fn reads_and_trims() -> Result<(), Fail> {
     runs(
-        &rt,
         16,
         &mut [9; 2],
         &mut [Mark::Sound; 2],
@@ -25,9 +24,8 @@ fn reads_and_trims(rt: HostRuntime) -> Result<(), Fail> {
 }
 
 #[test]
-fn writes_drops_and_spoils(rt: HostRuntime) -> Result<(), Fail> {
+fn writes_drops_and_spoils() -> Result<(), Fail> {
     runs(
-        &rt,
         16,
         &mut [9; 3],
         &mut [Mark::Sound; 3],

@@ -1,7 +1,7 @@
 // Tapes of every call and of every fault.
+use crate::checks::{check, check_eq};
 use refusal::Refusal;
-use std::process::Abort;
-use std::test::Fail;
+use std::test::{Fail, *};
 use tape::{Call, Fault, Reader, Reading, readings};
 
 fn made(place: usize, call: Call) -> Reading {
@@ -19,10 +19,9 @@ fn refused(place: usize, refusal: Refusal) -> Reading {
 }
 
 // The tape says just these readings.
-fn says(rt: &(impl Abort + AllocGlobal), tape: &[u8], expected: &[Reading]) -> Result<(), Fail> {
+fn says(rt: &HostRuntime, tape: &[u8], expected: &[Reading]) -> Result<(), Fail> {
     let all = readings(tape, rt.alloc())?;
-    assert_eq!(rt; all.as_slice(), expected);
-    Ok(())
+    check_eq(all.as_slice(), expected)
 }
 
 #[test]
@@ -117,28 +116,24 @@ fn a_field_cut_at_each_byte(rt: HostRuntime) -> Result<(), Fail> {
 fn the_longest_tape(rt: HostRuntime) -> Result<(), Fail> {
     let mut tape = vec![in rt.alloc(); 0u8; 65_535]?;
     let all = readings(tape.as_slice(), rt.alloc())?;
-    assert_eq!(rt; all.len(), 21_845);
-    assert_eq!(rt;
+    check_eq(all.len(), 21_845)?;
+    check_eq(
         all.last().copied(),
-        Some(refused(65_532, Refusal::UnknownTag))
-    );
+        Some(refused(65_532, Refusal::UnknownTag)),
+    )?;
     tape.push(0)?;
     says(&rt, tape.as_slice(), &[refused(0, Refusal::TapeTooLong)])
 }
 
 #[test]
-fn a_field_lends_its_contents(rt: HostRuntime) -> Result<(), Fail> {
+fn a_field_lends_its_contents() -> Result<(), Fail> {
     let tape = [8, 0, 2, 5, 6, 9];
     let mut reader = Reader::new(&tape)?;
     let field = reader.next_field().ok_or("no field")??;
-    assert_eq!(rt; field.tag, 8);
-    assert_eq!(rt; field.contents, &tape[3..5]);
-    assert_eq!(rt;
-        reader.next_call(),
-        Some(refused(5, Refusal::FieldCutShort))
-    );
-    assert!(rt; reader.next_field().is_none());
-    Ok(())
+    check_eq(field.tag, 8)?;
+    check_eq(field.contents, &tape[3..5])?;
+    check_eq(reader.next_call(), Some(refused(5, Refusal::FieldCutShort)))?;
+    check(reader.next_field().is_none())
 }
 
 #[test]
@@ -147,12 +142,11 @@ fn a_fault_in_words(rt: HostRuntime) -> Result<(), Fail> {
         place: 24,
         refusal: Refusal::UnknownTag,
     };
-    assert_eq!(rt; fault.number(), 14);
-    assert_eq!(rt; fault.layer().number(), 2);
+    check_eq(fault.number(), 14)?;
+    check_eq(fault.layer().number(), 2)?;
     let text = format!(in rt.alloc(); "{fault}")?;
-    assert_eq!(rt;
+    check_eq(
         text.as_str(),
-        "place 24: layer 2, refusal 14: the tag is unknown"
-    );
-    Ok(())
+        "place 24: layer 2, refusal 14: the tag is unknown",
+    )
 }

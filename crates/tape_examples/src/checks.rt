@@ -1,0 +1,19 @@
+// What a test says of a value: a failure names what was found and what was wanted.
+use std::fmt::Debug;
+use std::test::*;
+
+pub(crate) fn check(holds: bool) -> Result<(), Fail> {
+    if holds {
+        Ok(())
+    } else {
+        Err(Fail::new("what was wanted does not hold"))
+    }
+}
+
+pub(crate) fn check_eq<T: PartialEq + Debug + Drop>(found: T, wanted: T) -> Result<(), Fail> {
+    if found == wanted {
+        Ok(())
+    } else {
+        Err(Fail::new(format_args!("{found:?} in place of {wanted:?}")))
+    }
+}
