@@ -1,8 +1,12 @@
 // What a test says of a value: a failure names what was found and what was wanted.
+ghost use Rattle.std.specs.Prelude.{IfOk, IsTrue};
+
 use std::fmt::Debug;
 use std::test::*;
 
-pub(crate) fn check(holds: bool) -> Result<(), Fail> {
+pub(crate) fn check(holds: bool) -> Result<(), Fail>
+    ensures { IfOk result (λ _. IsTrue holds) }
+{
     if holds {
         Ok(())
     } else {

@@ -22,5 +22,5 @@ returns-in-Ok-finish-2 g c =
     let begun = c.in-Ok.ensures in
     let same = c.in-Err-finish.ensures.back in
     let t = c.finish-in-Err-finish.new.service in
-    ready_ended g.B.Map g.S.Map c.args.own.now m m t c.args.n c.in-Ok.grant Abandon (block (Some c.in-Ok-finish-2.-block)) c.requires begun.step begun.faulty (keeps_none g.B.Map g.S.Map m)
-    (subst (λ x. Goes g.B.Map g.S.Map m (end_call Abandon (plain x)) (block (Some c.in-Ok-finish-2.-block)) t) same c.in-Ok-finish-2.ensures.step)
+    ready_ended g.B.Map g.S.Map c.args.own.now m m t c.args.n c.in-Ok.grant Abandon (block (Some c.in-Ok-finish-2._block)) c.requires begun.step begun.faulty (keeps_none g.B.Map g.S.Map m)
+    (subst (λ x. Goes g.B.Map g.S.Map m (end_call Abandon (plain x)) (block (Some c.in-Ok-finish-2._block)) t) same c.in-Ok-finish-2.ensures.step)
