@@ -1,11 +1,11 @@
 -- From every standing that a history leads to, each call has an answer; and the laws together.
-use Rattle.std.proofs.Common.{◌≡◌, ℕ, ◌+◌, ◌<◌, ◌≤◌, true, false, ◌≢◌, ◌⊎◌, List, [], ◌∷◌, length, Some, None, Option, sym, refl, ap, ◌∙◌, inl, inr, ⊎_elim, arith}
+use Rattle.std.proofs.Common.{◌≡◌, ℕ, ◌+◌, ◌<◌, ◌≤◌, true, ◌⊎◌, List, [], ◌∷◌, length, Some, None, Option, sym, refl, ap, ◌∙◌, inl, inr, ⊎_elim, arith}
 use Rattle.std.proofs.lemmas.Bool.{cases_eq, cases_lt, cases_Bool, false≢true}
 use Rattle.map.proofs.Sets.{number_exists}
 use Rattle.rules.specs.declared.Position.{Position}
 use Rattle.rules.specs.Calls.{Grant, Labels, Limits, Standing, Call, Answer}
 use Rattle.rules.specs.Calls.Call.{begin, append, commit, abandon, condemn, read, trim, open_stream, close_stream, position, tally}
-use Rattle.rules.specs.Calls.Answer.{block, refused}
+use Rattle.rules.specs.Calls.Answer.{refused}
 use Rattle.rules.specs.Rules.{Checks, Judges, Step, checks, grant_checks, ending_checks, Accepts, out_of, Full, next_of, end_of}
 use Rattle.rules.specs.History.{History, Run, ledger, grants, endings}
 use Rattle.rules.specs.Laws.{Decided, SomeAnswer, Laws}

@@ -13,7 +13,7 @@ use Rattle.rules.specs.declared.Entry.TheVariants.{Settled}
 use Rattle.rules.specs.declared.Position.{Position}
 use Rattle.rules.specs.Calls.{Limits, Standing, Call, Answer}
 use Rattle.rules.specs.Calls.Call.{begin, append, commit, abandon, condemn, read, trim, open_stream, close_stream, position, tally}
-use Rattle.rules.specs.Calls.Answer.{block, refused}
+use Rattle.rules.specs.Calls.Answer.{refused}
 use Rattle.rules.specs.Rules.{Checks, Judges, Step, checks, Accepts, entry, out_of, settled_of, back, with_entry, with_stream, with_waiting, with_condemned, release, next_of}
 use Rattle.rules.specs.History.{History, Run, fresh, Ledger, ledger, noted, send_out, settle, take_back, retire, clear, head, is_at, given_by, ended_by, grants, endings}
 use Rattle.rules.proofs.Places.{At, Placed, moved, apart, updated, some_none, some_one, never, set_was, set_stays, sent, brought_back, cleared, thrown, settled_only, goes_out, goes_back, comes_back, is_thrown, is_settled, not_twice, placed_fresh}
