@@ -7,7 +7,7 @@ use Rattle.label.specs.declared.stream.StreamLabel.{StreamLabel}
 use Rattle.map.specs.declared.Map.{Ghosts}
 use Rattle.map.specs.Meaning.{Finds, beside}
 use Rattle.ring.specs.declared.queue.Ring.{Ring}
-use Rattle.ring.specs.Queue.{items, places, Pops}
+use Rattle.ring.specs.Queue.{items, Pops}
 use Rattle.rules.specs.declared.Entry.{Entry}
 use Rattle.rules.specs.declared.Position.{Position}
 use Rattle.rules.specs.Calls.{Limits}

@@ -5,7 +5,7 @@
 --   condemned_with o n   the number n of condemned blocks, with the block o, if any
 --   lost_in xs b     whether the marks say that b is condemned
 -- Assumes nothing.
-use Rattle.std.specs.Prelude.{◌≡◌, ℕ, ◌+◌, min, Bool, true, false, List, set, Some, None, Option, slice_index_or, slice_set}
+use Rattle.std.specs.Prelude.{◌≡◌, ℕ, ◌+◌, min, Bool, true, false, List, Some, None, Option, slice_index_or, slice_set}
 use Rattle.ring.specs.declared.queue.Ring.{Ring}
 use Rattle.ring.specs.Queue.{Pushes}
 use Rattle.blocks.specs.declared.pool.Mark.{Mark}

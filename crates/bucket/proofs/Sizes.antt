@@ -1,10 +1,10 @@
 -- The sizes that a table may have, and the two buckets of a digest at such a size.
-use Rattle.std.proofs.Common.{◌≡◌, ℕ, zero, suc, ◌+◌, ◌-◌, ◌*◌, ◌/◌, ◌%◌, ◌^◌, ◌<◌, ◌≤◌, Bool, true, false, ◌&&◌, eqb, leb, ◌⊎◌, Decides, sym, refl, ap, ◌∙◌, subst, ⊎_elim, pow-suc, arith, pow_mono}
+use Rattle.std.proofs.Common.{◌≡◌, ℕ, suc, ◌+◌, ◌-◌, ◌*◌, ◌/◌, ◌%◌, ◌^◌, ◌<◌, ◌≤◌, Bool, true, eqb, leb, Decides, sym, refl, ap, ◌∙◌, subst, ⊎_elim, pow-suc, arith, pow_mono}
 use lib.Arith.{bin_ind}
 use lib.Bits.{bit_and}
 use lib.Count.{ones, ones_step, ones-le, ones_cat}
 use Rattle.std.proofs.lemmas.Nat.{and_le_r, and_mask, mod_below, pow_pos}
-use Rattle.std.proofs.lemmas.Bool.{eqb-true, eq-eqb, leb-true, le-leb, and_parts, and_from, cases_lt, true≢false}
+use Rattle.std.proofs.lemmas.Bool.{eqb-true, eq-eqb, leb-true, le-leb, and_parts, and_from, cases_lt}
 use Rattle.bucket.specs.Spread.{Allowed, allowed_size, pair_of, first, second}
 
 -- ---- one bit alone is a power of two

@@ -13,7 +13,7 @@
 --   modify f xs i      the list xs with f of its element i
 --   peek f e xs i      f of the element i of xs, and e past the end
 -- Assumes nothing.
-use Rattle.std.specs.Prelude.{ℕ, zero, suc, ◌+◌, ◌-◌, min, Bool, true, false, cond, List, [], ◌∷◌, ◌==◌, bit_or}
+use Rattle.std.specs.Prelude.{ℕ, zero, suc, ◌+◌, ◌-◌, min, Bool, false, cond, List, [], ◌∷◌, ◌==◌, bit_or}
 use Rattle.bucket.specs.declared.slots.Slot.{Slot}
 use Rattle.bucket.specs.declared.slots.Mark.{Mark}
 use Rattle.bucket.specs.declared.slots.Bucket.{Bucket}

@@ -1,14 +1,14 @@
 // Areas of right and of wrong size: their check, and what a map is over each.
 use crate::blanks::blank;
+use crate::checks::{check, check_eq};
 use bucket::{Bucket, Mark, Slot};
 use bucket_map::{BucketMap, check as check_size};
 use insertion::Stored;
 use label::OldBlock;
 use refusal::Refusal;
 use std::mem::size_of;
-use table::Found;
-use crate::checks::{check, check_eq};
 use std::test::*;
+use table::Found;
 
 const TAKEN: Slot<OldBlock, u32> = Slot {
     used: true,

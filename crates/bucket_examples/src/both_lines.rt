@@ -1,13 +1,13 @@
 // Labels of the new line and of streams, payloads of several types, and lists of changes, beside a straight map.
 use crate::blanks::{blank, blank_row};
+use crate::checks::{check, check_eq};
 use bucket_map::{BucketMap, Change};
 use insertion::Stored;
 use label::{Label, NewBlock, OldBlock, StreamLabel};
 use map::{Denied, Map};
+use std::test::*;
 use straight::StraightMap;
 use table::Found;
-use crate::checks::{check, check_eq};
-use std::test::*;
 
 #[derive(Clone, Copy, PartialEq, Eq, Debug)]
 struct Span {

@@ -21,3 +21,11 @@ pub(crate) fn check_eq<T: PartialEq + Debug + Drop>(found: T, wanted: T) -> Resu
         Err(Fail::new(format_args!("{found:?} in place of {wanted:?}")))
     }
 }
+
+pub(crate) fn check_ne<T: PartialEq + Debug + Drop>(found: T, unwanted: T) -> Result<(), Fail> {
+    if found == unwanted {
+        Err(Fail::new(format_args!("{found:?} is not wanted")))
+    } else {
+        Ok(())
+    }
+}

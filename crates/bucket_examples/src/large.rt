@@ -1,13 +1,12 @@
 // A table of 4,096 buckets, filled with new-line labels until one does not fit.
 use crate::blanks::blank;
+use crate::checks::{check, check_eq};
 use crate::upkeep::{first, second, well_kept};
 use bucket::Bucket;
 use bucket_map::BucketMap;
 use insertion::Stored;
 use label::{Label, NewBlock};
-use std::test::Fail;
-use crate::checks::{check, check_eq};
-use std::test::*;
+use std::test::{Fail, *};
 
 // The label of a turn. No two are the same, since the factor is odd.
 fn nth(i: u32) -> NewBlock {

@@ -1,12 +1,12 @@
 // Old-line labels in tables of one and of two buckets, slot by slot.
 use crate::blanks::blank;
+use crate::checks::{check, check_eq, check_ne};
 use bucket::{Bucket, Slot};
 use bucket_map::BucketMap;
 use insertion::Stored;
 use label::OldBlock;
-use table::Found;
-use crate::checks::{check, check_eq};
 use std::test::*;
+use table::Found;
 
 fn pair_of_blanks() -> [Bucket<OldBlock, u32>; 2] {
     [blank(OldBlock(0), 0); 2]

@@ -1,8 +1,8 @@
 // Whether an area is well kept, told from its buckets by divisions of the labels' digests.
 use crate::blanks::NO_MARK;
+use crate::checks::{check, check_eq};
 use bucket::{Bucket, Slot};
 use label::Label;
-use crate::checks::{check, check_eq};
 use std::test::*;
 
 // The first bucket of a digest, of so many.

@@ -30,7 +30,6 @@ use Rattle.insertion.specs.Putting.{Adds, Asks, Puts, Room}
 use Rattle.insertion.specs.declared.planning.Plan.{Plan}
 use Rattle.insertion.specs.declared.storing.Stored.TheVariants.{Added, Full, Replaced}
 use Rattle.insertion.proofs.Additions.{added_blank, added_few, added_length, added_look, added_room, added_sound, ended_room}
-use Rattle.insertion.proofs.Prospects.{plan}
 
 module _ {L V : Type 0} (kind : Ghosts L) (bs : List (Bucket L V)) (l : L) where
   abbrev n : ℕ

@@ -10,7 +10,7 @@ use Rattle.label.specs.declared.Label.{Ghosts}
 use Rattle.bucket.specs.declared.slots.Bucket.{Bucket}
 use Rattle.table.specs.Tables.{first_of, second_of, unmarked}
 use Rattle.table.specs.Finding.{Looks}
-use Rattle.marks.specs.Marks.{bucket_at, parent_at, slot_at, Listed, Marked}
+use Rattle.marks.specs.Marks.{bucket_at, parent_at, slot_at, Listed}
 use Rattle.search.specs.Reached.{Trail, Reached, Searching, LowestAt}
 use Rattle.insertion.specs.declared.planning.Plan.{Plan}
 use Rattle.insertion.specs.declared.planning.Prospect.{Prospect}

@@ -1,5 +1,5 @@
 -- A bucket joins the reached list.
-use Rattle.std.proofs.Common.{◌≡◌, ℕ, zero, suc, ◌+◌, ◌<◌, ◌≤◌, Bool, true, false, cond, ◌≢◌, List, [], ◌∷◌, length, sym, refl, ap, ◌∙◌, subst, ⊎_elim, arith}
+use Rattle.std.proofs.Common.{◌≡◌, ℕ, zero, suc, ◌+◌, ◌<◌, ◌≤◌, Bool, true, false, cond, List, [], ◌∷◌, length, sym, refl, ap, ◌∙◌, subst, ⊎_elim, arith}
 use Rattle.std.proofs.lemmas.Bool.{cases_eq, cond-false, cond-true, true≢false}
 use Rattle.bucket.specs.Changes.{blank_mark, modify, peek, with_joined, with_mark, with_place}
 use Rattle.bucket.specs.declared.slots.Bucket.{Bucket}

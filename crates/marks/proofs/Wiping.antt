@@ -1,6 +1,6 @@
 -- Blanking place after place leaves no mark.
 -- of the marks of a list of n places in `old`, those of the first j places are blank in ms
-use Rattle.std.proofs.Common.{◌≡◌, ℕ, suc, ◌+◌, ◌<◌, ◌≤◌, true, false, ◌≢◌, List, [], ◌∷◌, length, sym, refl, ap, ◌∙◌, subst, ⊎_elim, arith}
+use Rattle.std.proofs.Common.{◌≡◌, ℕ, suc, ◌+◌, ◌<◌, ◌≤◌, true, false, List, [], ◌∷◌, length, sym, refl, ap, ◌∙◌, subst, ⊎_elim, arith}
 use Rattle.std.proofs.lemmas.Bool.{cases_Bool, cases_eq, cases_lt, true≢false}
 use Rattle.bucket.specs.Changes.{blank_mark, modify, with_joined, with_mark, with_place}
 use Rattle.bucket.specs.declared.slots.Bucket.{Bucket}

@@ -14,7 +14,7 @@ use Rattle.std.specs.Map.{update}
 use Rattle.label.specs.declared.Label.{Ghosts}
 use Rattle.bucket.specs.declared.slots.Slot.{Slot}
 use Rattle.bucket.specs.declared.slots.Bucket.{Bucket}
-use Rattle.bucket.specs.Spread.{first, tag_of, mask_of}
+use Rattle.bucket.specs.Spread.{tag_of, mask_of}
 use Rattle.bucket.specs.Slots.{slot_of}
 use Rattle.bucket.specs.Changes.{modify, peek, filled, freed, moved_out, moved_back}
 use Rattle.table.specs.Tables.{live, first_of, second_of, look, Lies, Nowhere, Sound, WellKept}

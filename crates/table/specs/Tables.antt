@@ -10,7 +10,7 @@
 --   unmarked bs        the table with all marks blank
 --   WellKept kind bs   the rules of a table at rest
 -- Assumes nothing.
-use Rattle.std.specs.Prelude.{◌≡◌, ℕ, zero, suc, ◌+◌, ◌<◌, Bool, true, false, cond, not, ◌&&◌, ◌⊎◌, List, [], ◌∷◌, length, Some, None, Option, ◌==◌, ◌≢◌, slice_index_or}
+use Rattle.std.specs.Prelude.{◌≡◌, ℕ, suc, ◌+◌, ◌<◌, true, cond, not, ◌&&◌, ◌⊎◌, List, [], ◌∷◌, length, Some, None, Option, ◌==◌, ◌≢◌, slice_index_or}
 use Rattle.label.specs.declared.Label.{Ghosts}
 use Rattle.bucket.specs.declared.slots.Slot.{Slot}
 use Rattle.bucket.specs.declared.slots.Bucket.{Bucket}

@@ -1,5 +1,5 @@
 -- The test of the definition, by its two parts; one bit alone is a power of two.
-use Rattle.std.proofs.Common.{◌≡◌, ℕ, Bool, true, false, ◌&&◌, eqb, leb, sym, ap, ◌∙◌}
+use Rattle.std.proofs.Common.{◌≡◌, ℕ, Bool, ◌&&◌, eqb, leb, sym, ap, ◌∙◌}
 use lib.Count.{ones}
 use Rattle.bucket.specs.Spread.{allowed_size}
 use Rattle.bucket.proofs.Sizes.{decides_allowed}

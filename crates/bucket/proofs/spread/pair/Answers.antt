@@ -1,5 +1,5 @@
 -- A mask stands for the remainder.
-use Rattle.std.proofs.Common.{◌≡◌, ◌<◌, sym, ◌∙◌, subst}
+use Rattle.std.proofs.Common.{◌<◌, sym, ◌∙◌, subst}
 use Rattle.bucket.proofs.Sizes.{masked_pair, masked_below}
 use Rattle.bucket.proofs.spread.pair.Goals as goal
 

@@ -1,5 +1,5 @@
 -- Held where it is found; else what the search comes to.
-use Rattle.std.proofs.Common.{◌≡◌, ◌<◌, length, IfSome, sym, refl, ◌∙◌, subst}
+use Rattle.std.proofs.Common.{◌<◌, length, IfSome, refl, ◌∙◌, subst}
 use Rattle.table.specs.Finding.{Looks}
 use Rattle.marks.proofs.Joining.{listed_below}
 use Rattle.search.specs.Reached.{Ended}

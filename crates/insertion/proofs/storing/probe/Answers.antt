@@ -1,5 +1,5 @@
 -- Each prospect of the label makes its answer.
-use Rattle.std.proofs.Common.{◌≡◌, true, false, sym, ◌∙◌, subst}
+use Rattle.std.proofs.Common.{true, false, sym, ◌∙◌, subst}
 use Rattle.insertion.specs.Putting.{Asks}
 use Rattle.insertion.proofs.Verdicts.{ask_wrong, ask_held, ask_full, ask_ready, at_rest}
 use Rattle.insertion.proofs.storing.probe.Goals as goal

@@ -1,5 +1,5 @@
 -- Each turn blanks one place, and its bucket leaves.
-use Rattle.std.proofs.Common.{◌≡◌, ◌<◌, length, sym, subst, arith}
+use Rattle.std.proofs.Common.{◌<◌, length, sym, subst, arith}
 use Rattle.marks.proofs.Wiping.{wiped_none, wiped_place, wiped_within, wiped_more, wiped_all}
 use Rattle.marks.proofs.blanking.blank.Goals as goal
 

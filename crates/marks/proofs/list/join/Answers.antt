@@ -1,5 +1,5 @@
 -- A bucket that has joined is left; another one is marked, and so is the place after the last.
-use Rattle.std.proofs.Common.{◌≡◌, ℕ, ◌+◌, ◌<◌, false, cond, length, sym, ap, ◌∙◌, arith}
+use Rattle.std.proofs.Common.{ℕ, ◌+◌, false, sym, ap, ◌∙◌, arith}
 use Rattle.std.proofs.lemmas.Bool.{cond-true, cond-false}
 use Rattle.bucket.specs.Changes.{modify, with_place}
 use Rattle.bucket.proofs.Lists.{peek_at}

@@ -1,8 +1,7 @@
 -- Each turn follows one label of the bucket.
-use Rattle.std.proofs.Common.{◌≡◌, ◌<◌, ◌≤◌, length, sym, ◌∙◌, subst, arith}
+use Rattle.std.proofs.Common.{◌≡◌, ◌<◌, length, sym, ◌∙◌, subst, arith}
 use Rattle.bucket.specs.Spread.{Allowed}
 use Rattle.bucket.proofs.Sizes.{allowed_most}
-use Rattle.marks.specs.Marks.{bucket_at}
 use Rattle.marks.proofs.Joining.{listed_below}
 use Rattle.search.specs.Reached.{Searching, FullAt}
 use Rattle.search.proofs.Steps.{follow_listed, follow_more, follow_bucket, follow_search}

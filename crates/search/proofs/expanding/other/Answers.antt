@@ -1,5 +1,5 @@
 -- Whichever of the two it does not lie in.
-use Rattle.std.proofs.Common.{◌≡◌, ℕ, ◌<◌, eqb, length, sym, ◌∙◌, subst}
+use Rattle.std.proofs.Common.{ℕ, ◌<◌, eqb, length, sym, ◌∙◌, subst}
 use Rattle.std.proofs.lemmas.Bool.{cond_both}
 use Rattle.search.proofs.Steps.{other_read}
 use Rattle.search.proofs.expanding.other.Goals as goal

@@ -1,6 +1,6 @@
 -- What each bucket shows makes the rule's case.
 use Rattle.std.proofs.Common.{sym, ◌∙◌}
-use Rattle.table.proofs.Rule.{Aim, aim, shows, misses, in_first, lets_on, stops, in_second, in_neither}
+use Rattle.table.proofs.Rule.{aim, shows, misses, in_first, lets_on, stops, in_second, in_neither}
 use Rattle.table.proofs.finding.locate.Goals as goal
 
 pub returns-in-Some : goal.returns-in-Some

@@ -1,6 +1,5 @@
 -- A label leaves one bucket and comes to the other.
-use Rattle.std.proofs.Common.{◌<◌, length, sym, subst}
-use Rattle.bucket.specs.Spread.{Allowed}
+use Rattle.std.proofs.Common.{length}
 use Rattle.bucket.proofs.Sizes.{allowed_most}
 use Rattle.table.proofs.Relocating.{relocate_area, relocate_moves}
 use Rattle.table.proofs.moving.relocate.Goals as goal

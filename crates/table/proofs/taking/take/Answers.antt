@@ -1,5 +1,5 @@
 -- The label's slot is freed, or there is none.
-use Rattle.std.proofs.Common.{◌≡◌, ◌<◌, length, IfSome, sym, ◌∙◌, subst}
+use Rattle.std.proofs.Common.{◌<◌, length, IfSome, sym, ◌∙◌, subst}
 use Rattle.table.specs.Finding.{Looks}
 use Rattle.table.proofs.Answering.{took, took_none, took_wrong}
 use Rattle.table.proofs.taking.take.Goals as goal

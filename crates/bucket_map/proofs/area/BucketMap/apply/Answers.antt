@@ -2,7 +2,6 @@
 use Rattle.std.proofs.Common.{◌≡◌, ℕ, ◌+◌, ◌≤◌, cond, ◌∷◌, drop, sym, ap, ◌∙◌, subst, arith}
 use Rattle.std.proofs.lemmas.List.{drop_more, drop_all}
 use Rattle.std.proofs.lemmas.Bool.{cond-true, cond-false}
-use Rattle.table.specs.Tables.{live, WellKept}
 use Rattle.bucket_map.proofs.Applied.{Sofar, sofar_none, sofar_more, sofar_all}
 use Rattle.bucket_map.proofs.area.BucketMap.apply.Goals as goal
 use Rattle.bucket_map.proofs.area.BucketMap.apply.Goals.{then-make, else-make}
