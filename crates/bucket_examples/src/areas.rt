@@ -1,8 +1,8 @@
 // Areas of right and of wrong size: their check, and what a map is over each.
 use crate::blanks::blank;
-use crate::checks::{check, check_eq};
 use bucket::{Bucket, Mark, Slot};
 use bucket_map::{BucketMap, check as check_size};
+use checks::{check, check_eq};
 use insertion::Stored;
 use label::OldBlock;
 use refusal::Refusal;

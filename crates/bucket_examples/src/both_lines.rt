@@ -1,7 +1,7 @@
 // Labels of the new line and of streams, payloads of several types, and lists of changes, beside a straight map.
 use crate::blanks::{blank, blank_row};
-use crate::checks::{check, check_eq};
 use bucket_map::{BucketMap, Change};
+use checks::{check, check_eq};
 use insertion::Stored;
 use label::{Label, NewBlock, OldBlock, StreamLabel};
 use map::{Denied, Map};

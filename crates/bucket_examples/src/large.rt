@@ -1,9 +1,9 @@
 // A table of 4,096 buckets, filled with new-line labels until one does not fit.
 use crate::blanks::blank;
-use crate::checks::{check, check_eq};
 use crate::upkeep::{first, second, well_kept};
 use bucket::Bucket;
 use bucket_map::BucketMap;
+use checks::{check, check_eq};
 use insertion::Stored;
 use label::{Label, NewBlock};
 use std::test::{Fail, *};

@@ -8,8 +8,6 @@ mod blanks;
 #[cfg(test)]
 mod both_lines;
 #[cfg(test)]
-mod checks;
-#[cfg(test)]
 mod large;
 #[cfg(test)]
 mod runs;

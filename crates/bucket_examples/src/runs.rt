@@ -1,9 +1,9 @@
 // Random-looking runs over eight buckets, beside a straight map and a test of placement that tries every set of buckets.
 use crate::blanks::{blank, blank_row};
-use crate::checks::{check, check_eq};
 use crate::upkeep::well_kept;
 use bucket::Bucket;
 use bucket_map::BucketMap;
+use checks::{check, check_eq};
 use insertion::Stored;
 use label::{BlockNumber, Label, NewBlock, OldBlock};
 use std::test::{Fail, *};

@@ -1,8 +1,8 @@
 // Old-line labels in tables of one and of two buckets, slot by slot.
 use crate::blanks::blank;
-use crate::checks::{check, check_eq, check_ne};
 use bucket::{Bucket, Slot};
 use bucket_map::BucketMap;
+use checks::{check, check_eq, check_ne};
 use insertion::Stored;
 use label::OldBlock;
 use std::test::*;

@@ -1,7 +1,7 @@
 // Whether an area is well kept, told from its buckets by divisions of the labels' digests.
 use crate::blanks::NO_MARK;
-use crate::checks::{check, check_eq};
 use bucket::{Bucket, Slot};
+use checks::{check, check_eq};
 use label::Label;
 use std::test::*;
 

@@ -1,5 +1,5 @@
 // Digests with known values, and labels that are the same or not.
-use crate::checks::{check, check_eq};
+use checks::{check, check_eq};
 use label::{BlockNumber, Label, NewBlock, OldBlock, StreamLabel, mix};
 use std::test::*;
 

@@ -1,5 +1,5 @@
 // The straight map over right areas and wrong ones.
-use crate::checks::{check, check_eq};
+use checks::{check, check_eq};
 use label::{OldBlock, StreamLabel};
 use map::{Denied, Map};
 use refusal::Refusal;

@@ -2,8 +2,8 @@
 ghost use Rattle.blocks.specs.Service.{Goes, Faulty, Finishes, Back, end_call, ended, plain};
 ghost use Rattle.service_examples.specs.Holding.{Ready, Keeps};
 
-use crate::checks::{check_eq, check_row};
 use blocks::{Blocks, Grant, Mark, check as check_sizes};
+use checks::{check_eq, check_row};
 use entry::Ending;
 use label::{BlockNumber, OldBlock, StreamLabel};
 use listing::{Outcome, obey};

@@ -4,8 +4,6 @@
 #[cfg(test)]
 mod card;
 #[cfg(test)]
-mod checks;
-#[cfg(test)]
 mod granting;
 #[cfg(test)]
 mod listings;

@@ -1,8 +1,8 @@
 // Tapes played on the bench's card, and on a service that was refused.
 use crate::card::{BLANK, QUIET};
-use crate::checks::{check, check_eq};
 use bench_card::list_tape;
 use blocks::{Blocks, Mark};
+use checks::{check, check_eq};
 use label::OldBlock;
 use listing::{Line, play};
 use std::test::*;

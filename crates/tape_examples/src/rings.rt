@@ -1,5 +1,5 @@
 // Rings of three cells, of one and of none.
-use crate::checks::{check, check_eq};
+use checks::{check, check_eq};
 use ring::Ring;
 use std::test::*;
 

@@ -1,5 +1,5 @@
 // Tapes of every call and of every fault.
-use crate::checks::{check, check_eq};
+use checks::{check, check_eq};
 use refusal::Refusal;
 use std::test::{Fail, *};
 use tape::{Call, Fault, Reader, Reading, readings};
