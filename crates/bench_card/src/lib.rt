@@ -22,7 +22,7 @@ fn bound() -> u32
     u32::MAX
 }
 
-// Plays the tape on a fresh card. Until the bucket table is there, the largest straight map holds the entries.
+// Plays the tape on a fresh card. Until it moves to the bucket map, the largest straight map holds the entries.
 pub fn list_tape(tape: &[u8], heap: Global) -> Result<Vec<Line>, AllocError>
     ensures { IfOk result (λ v. Listed tape.now v.items) }
 {

@@ -6,7 +6,7 @@ use bucket_map::BucketMap;
 use checks::{check, check_eq};
 use insertion::Stored;
 use label::{Label, NewBlock};
-use std::test::{Fail, *};
+use std::test::*;
 
 // The label of a turn. No two are the same, since the factor is odd.
 fn nth(i: u32) -> NewBlock {

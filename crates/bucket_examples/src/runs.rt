@@ -6,7 +6,7 @@ use bucket_map::BucketMap;
 use checks::{check, check_eq};
 use insertion::Stored;
 use label::{BlockNumber, Label, NewBlock, OldBlock};
-use std::test::{Fail, *};
+use std::test::*;
 use straight::{Row, StraightMap};
 
 // The next of a row of random-looking numbers.

@@ -2,6 +2,7 @@
 use Rattle.std.proofs.Common.{◌≡◌, ℕ, suc, ◌<◌, ◌≤◌, true, false, cond, eqb, ◌⊎◌, List, length, get_or, is_some, Some, sym, ap, ◌∙◌, subst, inl, inr, ⊎_elim, arith}
 use Rattle.std.proofs.lemmas.Bool.{cases_Bool, cases_eq, cond-false, cond-true}
 use Rattle.label.specs.declared.Label.{Ghosts}
+use Rattle.label.proofs.Sameness.{eqb_swap}
 use Rattle.map.specs.Meaning.{beside, changed, held}
 use Rattle.map.proofs.Lists.{distinct_below}
 use Rattle.bucket.specs.Slots.{slot_of}
@@ -11,7 +12,7 @@ use Rattle.table.specs.Moving.{occupied}
 use Rattle.table.specs.Tables.{Nowhere, Sound, first_of, look, second_of, unmarked}
 use Rattle.table.proofs.Both.{length_at_both}
 use Rattle.table.proofs.Coming.{occupy_look, occupy_sound}
-use Rattle.table.proofs.Looking.{eqb_swap, look_none}
+use Rattle.table.proofs.Looking.{look_none}
 use Rattle.table.proofs.Marks.{rest_occupied}
 use Rattle.table.proofs.Relocating.{nowhere_of}
 use Rattle.search.specs.Reached.{LowestAt, Reached, Trail}

@@ -2,6 +2,7 @@
 use Rattle.std.proofs.Common.{◌≡◌, ℕ, ◌<◌, ◌≤◌, true, false, cond, eqb, List, length, get_or, is_some, Some, None, Option, sym, refl, ap, ◌∙◌, subst, arith}
 use Rattle.std.proofs.lemmas.Bool.{cond-true, eq-eqb}
 use Rattle.label.specs.declared.Label.{Ghosts}
+use Rattle.label.proofs.Sameness.{eqb_swap}
 use Rattle.map.specs.Meaning.{beside, changed}
 use Rattle.map.proofs.Room.{held_room}
 use Rattle.bucket.specs.Changes.{modify, repaid}
@@ -17,7 +18,7 @@ use Rattle.table.specs.declared.finding.Spot.{Spot}
 use Rattle.table.proofs.Alike.{repaid_look, repaid_sound}
 use Rattle.table.proofs.Answering.{live_right, live_wrong}
 use Rattle.table.proofs.Coming.{room}
-use Rattle.table.proofs.Looking.{eqb_swap, look_at, look_none}
+use Rattle.table.proofs.Looking.{look_at, look_none}
 use Rattle.table.proofs.Marks.{rest_repaid}
 use Rattle.table.proofs.Rule.{looks_lies, looks_nowhere}
 use Rattle.marks.specs.Marks.{Marked, bucket_at}

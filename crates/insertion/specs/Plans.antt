@@ -3,7 +3,7 @@
 --   Follows kind t bs e k ms q   after the moves of q made so far, along the list t from place e
 --   Planned kind bs n ms q       a plan just made for n, in the table bs
 --   UsedUp kind bs n    the search from the two buckets of n uses up its list
---   FindsOut kind bs n ms r     what is found out about n in bs
+--   FindsOut kind bs n ms r      what is found out about n in bs
 -- Assumes nothing.
 use Rattle.std.specs.Prelude.{◌≡◌, ℕ, ◌+◌, ◌<◌, List, length, Some, None}
 use Rattle.label.specs.declared.Label.{Ghosts}

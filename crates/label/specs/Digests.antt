@@ -1,9 +1,9 @@
 -- The numbers that labels mean, and their digests.
 --   rotated n                          n rotated right by 8 within 32 bits
---   old_digest n                        the digest of the old line's block number n
+--   old_digest n                       the digest of the old line's block number n
 --   stirred z k m                      z xor z / 2 ^ k, times m, within 64 bits
 --   mixed z                            SplitMix64's mixing step
---   stream_number port channel session  the number of a stream label
+--   stream_number port channel session the number of a stream label
 --   WorkedDigests                      known values of the two digests
 use Rattle.std.specs.Prelude.{ℕ, ◌+◌, ◌*◌, ◌/◌, ◌%◌, ◌^◌, ◌≡◌}
 use Rattle.std.specs.Int.Bits.{bit_xor}

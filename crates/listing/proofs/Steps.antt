@@ -111,8 +111,8 @@ module _ {L B S : Type 0} (bm : Ghosts B L Entry) (sm : Ghosts S StreamLabel Pos
       lives = lives_on r.place r.outcome l.outcome adds.came;
       faulty = λ e f.
           let so = on.faulty e f in
-          let now-too = faults_on e r.outcome l.outcome (ap (λ b. b.fault) so.1 ∙ f) adds.came in
-          ((λ i. so.0 i ++ record { place = r.place; outcome = now-too.0 i } ∷ []) ∙ sym (faulted_more e rs r), now-too.1 ∙ so.1);
+          let now_too = faults_on e r.outcome l.outcome (ap (λ b. b.fault) so.1 ∙ f) adds.came in
+          ((λ i. so.0 i ++ record { place = r.place; outcome = now_too.0 i } ∷ []) ∙ sym (faulted_more e rs r), now_too.1 ∙ so.1);
     })
       where
         is_line : record { place = r.place; outcome = l.outcome } ≡ l

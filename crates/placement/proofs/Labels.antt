@@ -2,6 +2,7 @@
 use Rattle.std.proofs.Common.{◌≡◌, ℕ, zero, suc, ◌+◌, ◌*◌, Bool, true, false, cond, ◌&&◌, eqb, List, [], ◌∷◌, length, is_some, Some, None, Option, sym, refl, ap, ◌∙◌, ⊎_elim, arith}
 use Rattle.std.proofs.lemmas.Bool.{cond_both}
 use Rattle.label.specs.declared.Label.{Ghosts}
+use Rattle.label.proofs.Sameness.{eqb_swap}
 use Rattle.map.specs.Meaning.{held}
 use Rattle.map.specs.Sets.{Counts, Distinct, ◌∈◌, member}
 use Rattle.map.proofs.Lists.{clash, in_cons, not_in}
@@ -9,7 +10,6 @@ use Rattle.bucket.specs.Slots.{Has}
 use Rattle.bucket.specs.declared.slots.Bucket.{Bucket}
 use Rattle.bucket.specs.declared.slots.Slot.{Slot}
 use Rattle.table.specs.Tables.{Lies, Sound, hit, look, or_else}
-use Rattle.table.proofs.Looking.{eqb_swap}
 use Rattle.placement.specs.Fit.{labels, labels_in, slots_of}
 
 module _ {X : Type 0} where

@@ -1,6 +1,7 @@
 -- What the rows mean after a payload is replaced, an unused row filled, or a mark cleared.
 use Rattle.std.proofs.Common.{◌≡◌, ℕ, suc, ◌<◌, ◌≤◌, true, false, cond, eqb, List, [], ◌∷◌, length, is_some, Some, None, Option, sym, refl, ap, ◌∙◌, arith}
 use Rattle.std.proofs.lemmas.Bool.{cond-true, cond-false, eqb-true, eqb-false, eq-eqb, ne_eqb}
+use Rattle.label.proofs.Sameness.{eqb_swap}
 use Rattle.map.specs.Meaning.{changed}
 use Rattle.map.proofs.Lists.{split, clash}
 use Rattle.straight.specs.declared.rows.Row.{Row}
@@ -11,42 +12,32 @@ pub some_none : {V : Type 0} (o : Option V) → is_some o ≡ false → o ≡ No
 some_none None e = refl
 some_none (Some v) e = clash true e refl
 
-eqb_flip : (a b : ℕ) → eqb a b ≡ eqb b a
-eqb_flip a b = split (eqb a b) (λ t. t ∙ sym (eq-eqb b a (sym (eqb-true a b t)))) (λ f. f ∙ sym (ne_eqb b a (λ e. eqb-false a b f (sym e))))
-
--- what a change answers at a number, with the number that is asked for first
-abbrev altered : {V : Type 0} → (ℕ → Option V) → ℕ → Option V → ℕ → Option V
-altered f n w q = cond (eqb q n) w (f q)
-
-as_changed : {V : Type 0} (f : ℕ → Option V) (n : ℕ) (w : Option V) (q : ℕ) → altered f n w q ≡ changed f n w q
-as_changed f n w q = ap (λ b. cond b w (f q)) (eqb_flip q n)
-
 module _ {L V : Type 0} (num : L → ℕ) where
   -- replaced
-  replaced_reads : (xs : List (Row L V)) (n : ℕ) (v : V) (q : ℕ) → is_some (look num xs n) ≡ true → look num (replaced num xs n v) q ≡ altered (look num xs) n (Some v) q
-  replaced_reads [] n v q h = clash false refl h
-  replaced_reads (r ∷ rs) n v q h =
+  pub look_replaced : (xs : List (Row L V)) (n : ℕ) (v : V) (q : ℕ) → is_some (look num xs n) ≡ true → look num (replaced num xs n v) q ≡ changed (look num xs) n (Some v) q
+  look_replaced [] n v q h = clash false refl h
+  look_replaced (r ∷ rs) n v q h =
       split (holds num r n)
       (λ t. let w : Row L V = record { used = true; label = r.label; payload = v } in
       ap (λ ys. look num ys q) (cond-true (holds num r n) (w ∷ rs) _ t)
-      ∙ split (eqb q n)
-      (λ e. look_hit num w rs q (eq-eqb (num r.label) q (holds_number num r n t ∙ sym (eqb-true q n e))) ∙ sym (cond-true (eqb q n) _ _ e))
-      (λ f. look_miss num w rs q (ne_eqb (num r.label) q (λ e. eqb-false q n f (sym e ∙ holds_number num r n t)))
-      ∙ sym (look_miss num r rs q (holds_other num r n q t f)) ∙ sym (cond-false (eqb q n) _ _ f)))
+      ∙ split (eqb n q)
+      (λ e. look_hit num w rs q (eq-eqb (num r.label) q (holds_number num r n t ∙ eqb-true n q e)) ∙ sym (cond-true (eqb n q) _ _ e))
+      (λ f. look_miss num w rs q (ne_eqb (num r.label) q (λ e. eqb-false n q f (sym (holds_number num r n t) ∙ e)))
+      ∙ sym (look_miss num r rs q (holds_other num r n q t (eqb_swap q n ∙ f))) ∙ sym (cond-false (eqb n q) _ _ f)))
       (λ f. let k : is_some (look num rs n) ≡ true = ap is_some (sym (look_miss num r rs n f)) ∙ h in
       ap (λ ys. look num ys q) (cond-false (holds num r n) _ (r ∷ replaced num rs n v) f)
-      ∙ ap (λ z. cond (holds num r q) (Some r.payload) z) (replaced_reads rs n v q k)
-      ∙ split (eqb q n)
-      (λ e. let m : holds num r q ≡ false = ap (λ z. holds num r z) (eqb-true q n e) ∙ f in
-      cond-false (holds num r q) _ _ m ∙ cond-true (eqb q n) _ _ e ∙ sym (cond-true (eqb q n) _ _ e))
-      (λ o. ap (λ z. cond (holds num r q) (Some r.payload) z) (cond-false (eqb q n) _ _ o) ∙ sym (cond-false (eqb q n) _ _ o)))
+      ∙ ap (λ z. cond (holds num r q) (Some r.payload) z) (look_replaced rs n v q k)
+      ∙ split (eqb n q)
+      (λ e. let m : holds num r q ≡ false = ap (λ z. holds num r z) (sym (eqb-true n q e)) ∙ f in
+      cond-false (holds num r q) _ _ m ∙ cond-true (eqb n q) _ _ e ∙ sym (cond-true (eqb n q) _ _ e))
+      (λ o. ap (λ z. cond (holds num r q) (Some r.payload) z) (cond-false (eqb n q) _ _ o) ∙ sym (cond-false (eqb n q) _ _ o)))
 
   some_replaced : (xs : List (Row L V)) (n : ℕ) (v : V) (q : ℕ) → is_some (look num xs n) ≡ true → is_some (look num (replaced num xs n v) q) ≡ is_some (look num xs q)
   some_replaced xs n v q h =
-      ap is_some (replaced_reads xs n v q h)
-      ∙ split (eqb q n)
-      (λ e. ap is_some (cond-true (eqb q n) _ _ e) ∙ sym h ∙ ap (λ z. is_some (look num xs z)) (sym (eqb-true q n e)))
-      (λ f. ap is_some (cond-false (eqb q n) _ _ f))
+      ap is_some (look_replaced xs n v q h)
+      ∙ split (eqb n q)
+      (λ e. ap is_some (cond-true (eqb n q) _ _ e) ∙ sym h ∙ ap (λ z. is_some (look num xs z)) (eqb-true n q e))
+      (λ f. ap is_some (cond-false (eqb n q) _ _ f))
 
   -- apart, by parts
   pub apart_rest : (r : Row L V) (rs : List (Row L V)) → apart num (r ∷ rs) ≡ true → apart num rs ≡ true
@@ -81,24 +72,23 @@ module _ {L V : Type 0} (num : L → ℕ) where
       (λ u. some_replaced rs n v (num r.label) k ∙ apart_first r rs a u))
 
   -- filled
-  filled_reads : (xs : List (Row L V)) (l : L) (v : V) (q : ℕ) → is_some (look num xs (num l)) ≡ false → spare xs < length xs → look num (filled xs l v) q ≡ altered (look num xs) (num l) (Some v) q
-  filled_reads [] l v q h k = absurd (omega arith)
-  filled_reads (r ∷ rs) l v q h k =
+  pub look_filled : (xs : List (Row L V)) (l : L) (v : V) (q : ℕ) → is_some (look num xs (num l)) ≡ false → spare xs < length xs → look num (filled xs l v) q ≡ changed (look num xs) (num l) (Some v) q
+  look_filled [] l v q h k = absurd (omega arith)
+  look_filled (r ∷ rs) l v q h k =
       split r.used
       (λ t. let e : spare (r ∷ rs) ≡ suc (spare rs) = cond-true r.used _ _ t in
       let k2 : spare rs < length rs = omega arith in
       let f : holds num r (num l) ≡ false = split (holds num r (num l)) (λ y. clash (is_some (look num (r ∷ rs) (num l))) h (ap is_some (look_hit num r rs (num l) y))) (λ f. f) in
       let h2 : is_some (look num rs (num l)) ≡ false = ap is_some (sym (look_miss num r rs (num l) f)) ∙ h in
       ap (λ ys. look num ys q) (cond-true r.used (r ∷ filled rs l v) _ t)
-      ∙ ap (λ z. cond (holds num r q) (Some r.payload) z) (filled_reads rs l v q h2 k2)
-      ∙ split (eqb q (num l))
-      (λ e. let m : holds num r q ≡ false = ap (λ z. holds num r z) (eqb-true q (num l) e) ∙ f in
-      cond-false (holds num r q) _ _ m ∙ cond-true (eqb q (num l)) _ _ e ∙ sym (cond-true (eqb q (num l)) _ _ e))
-      (λ o. ap (λ z. cond (holds num r q) (Some r.payload) z) (cond-false (eqb q (num l)) _ _ o) ∙ sym (cond-false (eqb q (num l)) _ _ o)))
+      ∙ ap (λ z. cond (holds num r q) (Some r.payload) z) (look_filled rs l v q h2 k2)
+      ∙ split (eqb (num l) q)
+      (λ e. let m : holds num r q ≡ false = ap (λ z. holds num r z) (sym (eqb-true (num l) q e)) ∙ f in
+      cond-false (holds num r q) _ _ m ∙ cond-true (eqb (num l) q) _ _ e ∙ sym (cond-true (eqb (num l) q) _ _ e))
+      (λ o. ap (λ z. cond (holds num r q) (Some r.payload) z) (cond-false (eqb (num l) q) _ _ o) ∙ sym (cond-false (eqb (num l) q) _ _ o)))
       (λ f. let w : Row L V = record { used = true; label = l; payload = v } in
       ap (λ ys. look num ys q) (cond-false r.used _ (w ∷ rs) f)
-      ∙ ap (λ b. cond b (Some v) (look num rs q)) (eqb_flip (num l) q)
-      ∙ ap (λ z. cond (eqb q (num l)) (Some v) z) (sym (look_miss num r rs q (cond-false r.used _ false f))))
+      ∙ ap (λ z. cond (eqb (num l) q) (Some v) z) (sym (look_miss num r rs q (cond-false r.used _ false f))))
 
   some_filled : (xs : List (Row L V)) (l : L) (v : V) (q : ℕ) → eqb q (num l) ≡ false → look num (filled xs l v) q ≡ look num xs q
   some_filled [] l v q o = refl
@@ -107,7 +97,7 @@ module _ {L V : Type 0} (num : L → ℕ) where
       (λ t. ap (λ ys. look num ys q) (cond-true r.used (r ∷ filled rs l v) _ t) ∙ ap (λ z. cond (holds num r q) (Some r.payload) z) (some_filled rs l v q o))
       (λ f. let w : Row L V = record { used = true; label = l; payload = v } in
       ap (λ ys. look num ys q) (cond-false r.used _ (w ∷ rs) f)
-      ∙ look_miss num w rs q (eqb_flip (num l) q ∙ o) ∙ sym (look_miss num r rs q (cond-false r.used _ false f)))
+      ∙ look_miss num w rs q (eqb_swap (num l) q ∙ o) ∙ sym (look_miss num r rs q (cond-false r.used _ false f)))
 
   pub apart_filled : (xs : List (Row L V)) (l : L) (v : V) → is_some (look num xs (num l)) ≡ false → apart num xs ≡ true → apart num (filled xs l v) ≡ true
   apart_filled [] l v h a = refl
@@ -122,21 +112,21 @@ module _ {L V : Type 0} (num : L → ℕ) where
       ap (apart num) (cond-false r.used _ (w ∷ rs) g) ∙ apart_both w rs (apart_rest r rs a) (λ _. h2))
 
   -- cleared
-  cleared_reads : (xs : List (Row L V)) (n q : ℕ) → apart num xs ≡ true → look num (cleared num xs n) q ≡ altered (look num xs) n None q
-  cleared_reads [] n q a = split (eqb q n) (λ e. sym (cond-true (eqb q n) _ _ e)) (λ f. sym (cond-false (eqb q n) _ _ f))
-  cleared_reads (r ∷ rs) n q a =
+  pub look_cleared : (xs : List (Row L V)) (n q : ℕ) → apart num xs ≡ true → look num (cleared num xs n) q ≡ changed (look num xs) n None q
+  look_cleared [] n q a = split (eqb n q) (λ e. sym (cond-true (eqb n q) _ _ e)) (λ f. sym (cond-false (eqb n q) _ _ f))
+  look_cleared (r ∷ rs) n q a =
       split (holds num r n)
       (λ t. ap (λ ys. look num ys q) (cond-true (holds num r n) (unused r ∷ rs) _ t)
-      ∙ split (eqb q n)
+      ∙ split (eqb n q)
       (λ e. let z : look num rs (num r.label) ≡ None = some_none _ (apart_first r rs a (holds_used num r n t)) in
-      ap (look num rs) (eqb-true q n e ∙ sym (holds_number num r n t)) ∙ z ∙ sym (cond-true (eqb q n) _ _ e))
-      (λ f. sym (look_miss num r rs q (holds_other num r n q t f)) ∙ sym (cond-false (eqb q n) _ _ f)))
+      ap (look num rs) (sym (eqb-true n q e) ∙ sym (holds_number num r n t)) ∙ z ∙ sym (cond-true (eqb n q) _ _ e))
+      (λ f. sym (look_miss num r rs q (holds_other num r n q t (eqb_swap q n ∙ f))) ∙ sym (cond-false (eqb n q) _ _ f)))
       (λ f. ap (λ ys. look num ys q) (cond-false (holds num r n) _ (r ∷ cleared num rs n) f)
-      ∙ ap (λ z. cond (holds num r q) (Some r.payload) z) (cleared_reads rs n q (apart_rest r rs a))
-      ∙ split (eqb q n)
-      (λ e. let m : holds num r q ≡ false = ap (λ z. holds num r z) (eqb-true q n e) ∙ f in
-      cond-false (holds num r q) _ _ m ∙ cond-true (eqb q n) _ _ e ∙ sym (cond-true (eqb q n) _ _ e))
-      (λ o. ap (λ z. cond (holds num r q) (Some r.payload) z) (cond-false (eqb q n) _ _ o) ∙ sym (cond-false (eqb q n) _ _ o)))
+      ∙ ap (λ z. cond (holds num r q) (Some r.payload) z) (look_cleared rs n q (apart_rest r rs a))
+      ∙ split (eqb n q)
+      (λ e. let m : holds num r q ≡ false = ap (λ z. holds num r z) (sym (eqb-true n q e)) ∙ f in
+      cond-false (holds num r q) _ _ m ∙ cond-true (eqb n q) _ _ e ∙ sym (cond-true (eqb n q) _ _ e))
+      (λ o. ap (λ z. cond (holds num r q) (Some r.payload) z) (cond-false (eqb n q) _ _ o) ∙ sym (cond-false (eqb n q) _ _ o)))
 
   pub apart_cleared : (xs : List (Row L V)) (n : ℕ) → apart num xs ≡ true → apart num (cleared num xs n) ≡ true
   apart_cleared [] n a = refl
@@ -145,10 +135,10 @@ module _ {L V : Type 0} (num : L → ℕ) where
       (λ t. ap (apart num) (cond-true (holds num r n) (unused r ∷ rs) _ t) ∙ apart_rest r rs a)
       (λ f. ap (apart num) (cond-false (holds num r n) _ (r ∷ cleared num rs n) f)
       ∙ apart_both r (cleared num rs n) (apart_cleared rs n (apart_rest r rs a))
-      (λ u. ap is_some (cleared_reads rs n (num r.label) (apart_rest r rs a))
-      ∙ split (eqb (num r.label) n)
-      (λ e. ap is_some (cond-true (eqb (num r.label) n) _ _ e))
-      (λ o. ap is_some (cond-false (eqb (num r.label) n) _ _ o) ∙ apart_first r rs a u)))
+      (λ u. ap is_some (look_cleared rs n (num r.label) (apart_rest r rs a))
+      ∙ split (eqb n (num r.label))
+      (λ e. ap is_some (cond-true (eqb n (num r.label)) _ _ e))
+      (λ o. ap is_some (cond-false (eqb n (num r.label)) _ _ o) ∙ apart_first r rs a u)))
 
   pub cleared_none : (xs : List (Row L V)) (n : ℕ) → is_some (look num xs n) ≡ false → cleared num xs n ≡ xs
   cleared_none [] n h = refl
@@ -163,12 +153,3 @@ module _ {L V : Type 0} (num : L → ℕ) where
       (λ t. let e : spare (r ∷ rs) ≡ suc (spare rs) = cond-true r.used _ _ t in let k : length rs ≤ spare rs = omega arith in
       cond-true r.used _ _ t ∙ ap (λ ys. r ∷ ys) (filled_none rs l v k))
       (λ f. let e : spare (r ∷ rs) ≡ 0 = cond-false r.used _ _ f in absurd (omega arith))
-
-  pub look_replaced : (xs : List (Row L V)) (n : ℕ) (v : V) (q : ℕ) → is_some (look num xs n) ≡ true → look num (replaced num xs n v) q ≡ changed (look num xs) n (Some v) q
-  look_replaced xs n v q h = replaced_reads xs n v q h ∙ as_changed (look num xs) n (Some v) q
-
-  pub look_filled : (xs : List (Row L V)) (l : L) (v : V) (q : ℕ) → is_some (look num xs (num l)) ≡ false → spare xs < length xs → look num (filled xs l v) q ≡ changed (look num xs) (num l) (Some v) q
-  look_filled xs l v q h k = filled_reads xs l v q h k ∙ as_changed (look num xs) (num l) (Some v) q
-
-  pub look_cleared : (xs : List (Row L V)) (n q : ℕ) → apart num xs ≡ true → look num (cleared num xs n) q ≡ changed (look num xs) n None q
-  look_cleared xs n q a = cleared_reads xs n q a ∙ as_changed (look num xs) n None q

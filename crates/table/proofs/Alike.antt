@@ -19,7 +19,7 @@ module _ {L V : Type 0} where
   Alike s t = (s.used ≡ t.used) × (s.tag ≡ t.tag) × (s.label ≡ t.label)
 
   -- the same labels in the same slots, counts and filters
-  module _ (kind : Ghosts L) (bs es : List (Bucket L V)) (sound : Sound kind bs) (len : length es ≡ length bs) (alike : (j t : ℕ) (d : Bucket L V) → Alike (slot_of (get_or es j d) t) (slot_of (get_or bs j d) t)) (moved : (q : ℕ) → peek (λ b. b.moved) 0 es q ≡ peek (λ b. b.moved) 0 bs q) (filters : (q : ℕ) → peek (λ b. b.filter) 0 es q ≡ peek (λ b. b.filter) 0 bs q) (movers-eq : (size q : ℕ) → movers kind size q 0 es ≡ movers kind size q 0 bs) where
+  module _ (kind : Ghosts L) (bs es : List (Bucket L V)) (sound : Sound kind bs) (len : length es ≡ length bs) (alike : (j t : ℕ) (d : Bucket L V) → Alike (slot_of (get_or es j d) t) (slot_of (get_or bs j d) t)) (moved : (q : ℕ) → peek (λ b. b.moved) 0 es q ≡ peek (λ b. b.moved) 0 bs q) (filters : (q : ℕ) → peek (λ b. b.filter) 0 es q ≡ peek (λ b. b.filter) 0 bs q) (movers_eq : (size q : ℕ) → movers kind size q 0 es ≡ movers kind size q 0 bs) where
     pub lies_back : (m j t : ℕ) → Lies kind es m j t → Lies kind bs m j t
     lies_back m j t h = (let a = h.0 in omega arith, h.1, λ d. (sym (alike j t d).0 ∙ (h.2 d).0, ap kind.number (sym (alike j t d).2) ∙ (h.2 d).1))
 
@@ -33,7 +33,7 @@ module _ {L V : Type 0} where
           tagged = λ m j t h d. (alike j t d).1 ∙ sound.tagged m j t (lies_back m j t h) d;
           once = λ m j t j' t' h h'. sound.once m j t j' t' (lies_back m j t h) (lies_back m j' t' h');
           masked = λ m j t h ne. subst (λ z. contains (peek (λ b. b.filter) 0 es (first_of kind z m)) (mask_of (kind.spread m)) ≡ true) (sym len) (subst (λ z. contains z (mask_of (kind.spread m)) ≡ true) (sym (filters _)) (sound.masked m j t (lies_back m j t h) (λ e. ne (subst (λ z. j ≡ first_of kind z m) (sym len) e))));
-          counts = λ q h. moved q ∙ sound.counts q (let a = len in omega arith) ∙ sym (movers-eq (length bs) q) ∙ ap (λ z. movers kind z q 0 es) (sym len);
+          counts = λ q h. moved q ∙ sound.counts q (let a = len in omega arith) ∙ sym (movers_eq (length bs) q) ∙ ap (λ z. movers kind z q 0 es) (sym len);
           clear = λ q h z. filters q ∙ sound.clear q (let a = len in omega arith) (sym (moved q) ∙ z);
         }
 

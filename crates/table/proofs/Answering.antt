@@ -4,6 +4,7 @@ use Rattle.std.proofs.lemmas.List.{get_or_read}
 use Rattle.std.proofs.lemmas.Bool.{cases_eq, cond-false, cond-true, eq-eqb, ne_eqb, true≢false}
 use Rattle.std.specs.Map.{update}
 use Rattle.label.specs.declared.Label.{Ghosts}
+use Rattle.label.proofs.Sameness.{eqb_swap}
 use Rattle.bucket.specs.Changes.{freed, moved_back}
 use Rattle.bucket.specs.Slots.{slot_of}
 use Rattle.bucket.specs.Spread.{allowed_size}
@@ -19,7 +20,7 @@ use Rattle.table.specs.declared.finding.Found.{Found}
 use Rattle.table.specs.declared.finding.Spot.{Spot}
 use Rattle.table.proofs.Both.{length_at_both}
 use Rattle.table.proofs.Leaving.{vacate_look, vacate_sound}
-use Rattle.table.proofs.Looking.{eqb_swap, look_at, look_none}
+use Rattle.table.proofs.Looking.{look_at, look_none}
 use Rattle.table.proofs.Marks.{rest_vacated}
 use Rattle.table.proofs.Rule.{looks_lies, looks_nowhere}
 

@@ -54,7 +54,7 @@ module _ {L V : Type 0} where
     movers_keep g keeps (b ∷ bs) i zero = ap (λ z. z + movers kind size q (suc i) bs) (keeps b i)
     movers_keep g keeps (b ∷ bs) i (suc k) = ap (λ z. movers_in kind size q i b + z) (movers_keep g keeps bs (suc i) k)
 
-    -- a label that lies outside its first bucket is with_counts there
+    -- a label that lies outside its first bucket is counted there
     pub mover_one : (s : Slot L V) (m j : ℕ) → Has kind s m → first_of kind size m ≡ q → (j ≡ q → ⊥) → mover kind size q j s ≡ 1
     mover_one s m j has e ne = cond-true {A = ℕ} _ 1 0 (and_from s.used _ has.0 (and_from _ (not (eqb j q)) (eq-eqb _ q (ap (λ z. first_of kind size z) has.1 ∙ e)) (ap not (ne_eqb j q ne))))
 

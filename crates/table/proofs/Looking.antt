@@ -2,16 +2,11 @@
 use Rattle.std.proofs.Common.{◌≡◌, ℕ, zero, suc, ◌<◌, Bool, true, false, cond, ◌&&◌, eqb, List, [], ◌∷◌, length, get_or, Some, None, Option, sym, refl, ◌∙◌, subst, arith, MatchOption}
 use Rattle.std.proofs.lemmas.List.{get_or_read}
 use Rattle.std.proofs.lemmas.Bool.{eq-eqb, eqb-true, true≢false}
-use Rattle.std.proofs.lemmas.Bool.Decides.{nat_tests}
 use Rattle.label.specs.declared.Label.{Ghosts}
 use Rattle.bucket.specs.Slots.{Has, slot_of}
 use Rattle.bucket.specs.declared.slots.Bucket.{Bucket}
 use Rattle.bucket.specs.declared.slots.Slot.{Slot}
 use Rattle.table.specs.Tables.{Lies, Nowhere, Sound, hit, hit_in, look, or_else}
-
--- a test of equality reads the same both ways
-pub eqb_swap : (a b : ℕ) → eqb a b ≡ eqb b a
-eqb_swap a b = grind (arith, nat_tests)
 
 module _ {L V : Type 0} (kind : Ghosts L) where
   pub lies_read : (bs : List (Bucket L V)) (n i k : ℕ) (x : Bucket L V) → i < length bs → x ≡ get_or bs i x → k < 4 → Has kind (slot_of x k) n → Lies kind bs n i k

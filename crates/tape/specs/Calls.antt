@@ -9,7 +9,7 @@
 --   decoded t xs    the call of a field of tag t and contents xs, or why it is none
 --   Small c         the number of c has four bytes at most
 --   Decodes t xs o  o is what such a field means, by the calls' tags and contents alone
---   OwnField       the field of a call makes that call
+--   OwnField        the field of a call makes that call
 -- Assumes nothing.
 use Rattle.std.specs.Prelude.{◌≡◌, ℕ, ◌+◌, ◌*◌, ◌/◌, ◌%◌, ◌<◌, cond, List, [], ◌∷◌, length, Ok, Err, Result, ◌==◌, ◌≢◌}
 use Rattle.refusal.specs.declared.Refusal.{Refusal}

@@ -1,7 +1,7 @@
 -- What a whole tape says.
 --   Reads T p rs   from the place p on, the tape T says the readings rs, in order
 --   Tape T rs      the whole tape T says rs
---   OneReading    no tape says two things
+--   OneReading     no tape says two things
 -- Assumes nothing.
 use Rattle.std.specs.Prelude.{◌≡◌, ℕ, ◌<◌, ◌≤◌, ◌⊎◌, List, [], ◌∷◌, length, Err}
 use Rattle.refusal.specs.declared.Refusal.TheVariants.{FieldCutShort, TapeTooLong}

@@ -1,10 +1,10 @@
 -- Calls written as a tape, and what such a tape says.
 --   encoded c       the field of the call c
 --   written cs      the tape of the calls cs, field after field
---   AllSmall cs    the numbers of the calls cs have four bytes at most
+--   AllSmall cs     the numbers of the calls cs have four bytes at most
 --   placed p cs     the readings of those calls, where the first field stands at the place p
---   WrittenReads   a tape that is written from calls says those calls
---   OnlyWritten    a tape of bytes that says calls and no fault is the one that is written from those calls
+--   WrittenReads    a tape that is written from calls says those calls
+--   OnlyWritten     a tape of bytes that says calls and no fault is the one that is written from those calls
 -- Assumes nothing.
 use Rattle.std.specs.Prelude.{◌≡◌, ℕ, ◌+◌, ◌/◌, ◌%◌, ◌<◌, ◌≤◌, List, [], ◌∷◌, ◌++◌, length, Ok, slice_index}
 use Rattle.tape.specs.declared.calls.Call.{Call}

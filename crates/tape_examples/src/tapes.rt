@@ -1,7 +1,7 @@
 // Tapes of every call and of every fault.
 use checks::{check, check_eq};
 use refusal::Refusal;
-use std::test::{Fail, *};
+use std::test::*;
 use tape::{Call, Fault, Reader, Reading, readings};
 
 fn made(place: usize, call: Call) -> Reading {

@@ -1,4 +1,4 @@
--- The slot's payload, by the rule; in a well_kept table it is the label's, and so it is in every twin.
+-- The slot's payload, by the rule; in a well-kept table it is the label's, and so it is in every twin.
 use Rattle.std.proofs.Common.{◌<◌, length, IfSome, sym, ◌∙◌, subst}
 use Rattle.table.specs.Finding.{Looks}
 use Rattle.table.proofs.Answering.{found, found_none, found_wrong, same_find}
