@@ -6,19 +6,15 @@ use bench_card::list_tape;
 use std::env;
 use std::io::Read;
 
-fn run(rt: &HostRuntime) -> anyhow::Result<()> {
-    if env::args(rt)?.count() > 1 {
+fn main(rt: HostRuntime) -> anyhow::Result<()> {
+    if env::args(&rt)?.count() > 1 {
         return Err(anyhow!("usage: bench < TAPE (the tape is read from standard input)"));
     }
     let mut tape = Vec::new(rt.alloc());
     rt.stdin().read_to_end(&mut tape)?;
     let lines = list_tape(tape.as_slice(), rt.alloc())?;
-    for line in lines.iter() {
-        println!(rt; "{line}")?;
+    for line in &lines {
+        println!(&rt; "{line}")?;
     }
     Ok(())
-}
-
-fn main(rt: HostRuntime) -> anyhow::Result<()> {
-    run(&rt)
 }

@@ -1,7 +1,7 @@
 // The card of the returns bench: eight blocks of the old line, every block number but the last, four streams.
 #![tactic(auto)]
 
-ghost use Rattle.std.specs.Prelude.{◌≡◌, IfOk};
+ghost use Rattle.std.specs.Prelude.{IfOk};
 ghost use Rattle.bench_card.specs.Card.{Listed};
 
 use blocks::{Blocks, Mark};
@@ -16,11 +16,7 @@ const BLOCKS: usize = 8;
 const STREAMS: usize = 4;
 
 // The bound of the block numbers: every number of 32 bits but the largest.
-fn bound() -> u32
-    ensures { result ≡ 4294967295 }
-{
-    u32::MAX
-}
+const BOUND: u32 = u32::MAX;
 
 // Plays the tape on a fresh card. Until it moves to the bucket map, the largest straight map holds the entries.
 pub fn list_tape(tape: &[u8], heap: Global) -> Result<Vec<Line>, AllocError>
@@ -44,6 +40,6 @@ pub fn list_tape(tape: &[u8], heap: Global) -> Result<Vec<Line>, AllocError>
     }; STREAMS];
     let entries = StraightMap::new(&mut entry_rows);
     let streams = StraightMap::new(&mut stream_rows);
-    let mut service = Blocks::new(bound(), &mut cells, &mut marks, entries, streams);
+    let mut service = Blocks::new(BOUND, &mut cells, &mut marks, entries, streams);
     play(&mut service, tape, heap)
 }

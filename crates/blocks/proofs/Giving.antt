@@ -1,26 +1,27 @@
 -- A block sent out at a number, or the refusal, goes by the rules.
-use Rattle.std.proofs.Common.{◌≡◌, ℕ, ◌<◌, true, false, eqb, List, [], ◌∷◌, length, is_some, Some, None, Option, sym, refl, ap, ◌∙◌, subst, inl, inr, arith}
+use Rattle.std.proofs.Common.{◌≡◌, ℕ, ◌<◌, true, eqb, List, [], ◌∷◌, length, is_some, Some, None, Ok, Err, Option, Result, sym, refl, ap, ◌∙◌, subst, inl, inr, arith}
 use Rattle.std.specs.List.{slice_get}
 use Rattle.std.specs.Map.{update}
-use Rattle.refusal.specs.declared.Refusal.TheVariants.{NoBlockWaiting, BlockMapFull}
+use Rattle.refusal.specs.declared.Refusal.{Refusal}
+use Rattle.refusal.specs.declared.Refusal.TheVariants.{NoBlockWaiting}
 use Rattle.label.specs.declared.stream.StreamLabel.{StreamLabel}
 use Rattle.map.specs.declared.Map.{Ghosts}
 use Rattle.map.specs.Meaning.{Finds, beside}
 use Rattle.ring.specs.declared.queue.Ring.{Ring}
-use Rattle.ring.specs.Queue.{items, Pops}
+use Rattle.ring.specs.Queue.{items, Pops, Popped}
 use Rattle.rules.specs.declared.Entry.{Entry}
 use Rattle.rules.specs.declared.Position.{Position}
 use Rattle.rules.specs.Calls.{Limits}
 use Rattle.rules.specs.Calls.Call.{begin}
 use Rattle.rules.specs.Calls.Answer.{granted}
-use Rattle.rules.specs.Rules.{Step, Full, out_of, settled_of, entry}
+use Rattle.rules.specs.Rules.{Step, out_of, settled_of, entry}
 use Rattle.rules.specs.History.{History}
 use Rattle.blocks.specs.declared.state.Blocks.{Blocks}
 use Rattle.blocks.specs.Pool.{lost_in, more}
 use Rattle.blocks.specs.Stores.{Stores}
-use Rattle.blocks.specs.Service.{limits_of, standing, Lived, Unchanged, Refuses, SentOut, pass}
-use Rattle.blocks.proofs.Words.{at, front_none, not_empty, some_entry}
-use Rattle.blocks.proofs.Lives.{lives, outs_below}
+use Rattle.blocks.specs.Service.{limits_of, standing, Lived, Goes, Unchanged, Refuses, SentOut, Gives, given, pass}
+use Rattle.blocks.proofs.Words.{at, front_none, front_pops, some_entry}
+use Rattle.blocks.proofs.Lives.{lives, outs_below, refused_lives}
 
 -- a service with another block map, pool and number out
 abbrev pub over : {L B S : Type 0} → Blocks L B S → B → Ring ℕ → ℕ → Blocks L B S
@@ -37,30 +38,21 @@ over s m pool out = record {
 }
 
 module _ {L B S : Type 0} (bm : Ghosts B L Entry) (sm : Ghosts S StreamLabel Position) (s : Blocks L B S)
-    (n l : ℕ) (is : l ≡ n) (m₁ : B) (old : Option Entry) (found : Finds bm.kept bm.pairs bm.shape bm.fits s.entries l old m₁) where
+    (n l : ℕ) (is : l ≡ n) (m₁ : B) (old : Option Entry) (found : Finds bm.pairs bm.shape bm.fits s.entries l old m₁) where
   pub old_is : old ≡ bm.pairs s.entries n
   old_is = found.answer ∙ ap (bm.pairs s.entries) is
 
   module _ (m₂ : B) (e : Option Entry) where
-    -- the map after the entry was stored, or found full
-    pub stored : Stores bm m₁ l e true m₂ → bm.pairs m₂ ≡ update eqb (bm.pairs s.entries) n e
+    -- the map after the entry was stored
+    pub stored : Stores bm m₁ l e (Ok tt) m₂ → bm.pairs m₂ ≡ update eqb (bm.pairs s.entries) n e
     stored st = st.answer.0 ∙ (λ i. update eqb (found.after i) (is i) e)
 
-    pub full : Stores bm m₁ l e false m₂ → Full (bm.fits (bm.shape s.entries)) (bm.pairs s.entries) n
-    full st = (
-      sym (λ i. found.after i (is i)) ∙ st.answer.1,
-      λ x. st.answer.2 (subst (λ (X : Type 0). X) (λ i. bm.fits (sym found.fit i) (beside (sym found.after i) (sym is i))) x),
-    )
-
-    pub fits : is_some e ≡ true → Stores bm m₁ l e true m₂ → bm.fits (bm.shape s.entries) (beside (bm.pairs s.entries) n)
+    fits : is_some e ≡ true → Stores bm m₁ l e (Ok tt) m₂ → bm.fits (bm.shape s.entries) (beside (bm.pairs s.entries) n)
     fits some st = subst (λ (X : Type 0). X) (λ i. bm.fits (found.fit i) (beside (found.after i) (is i))) (st.answer.1 some)
 
-  -- what is left where a find, or a find and a store, changed no pair
-  pub left_found : Unchanged bm sm s (over s m₁ s.pool s.out)
-  left_found = record { kept = found.kept; fit = found.fit; pairs = found.after; streams = refl; pool = refl; marks = refl; area = refl; out = refl; condemned = refl; limit = refl; fault = refl }
-
-  pub left_full : (m₂ : B) (e : Option Entry) → Stores bm m₁ l e false m₂ → Unchanged bm sm s (over s m₂ s.pool s.out)
-  left_full m₂ e st = record { kept = st.kept; fit = st.fit ∙ found.fit; pairs = st.answer.3 ∙ found.after; streams = refl; pool = refl; marks = refl; area = refl; out = refl; condemned = refl; limit = refl; fault = refl }
+  -- what is left where a find changed no pair
+  left_found : Unchanged bm sm s (over s m₁ s.pool s.out)
+  left_found = record { fit = found.fit; pairs = found.after; streams = refl; pool = refl; marks = refl; area = refl; out = refl; condemned = refl; limit = refl; fault = refl }
 
   module _ (small : n < s.limit) (free : out_of old ≡ None) where
     here_free : out_of (bm.pairs s.entries n) ≡ None
@@ -72,24 +64,17 @@ module _ {L B S : Type 0} (bm : Ghosts B L Entry) (sm : Ghosts S StreamLabel Pos
       same = left_found;
     }
 
-    pub map_full : (b : ℕ) → Some b ≡ slice_get (items s.pool) 0 → (m₂ : B) (e : Option Entry) → Stores bm m₁ l e false m₂ → Refuses bm sm s (begin n) BlockMapFull (over s m₂ s.pool s.out)
-    map_full b front m₂ e st = record {
-      reason = inr (inr (λ l. omega arith, inr (λ ne. ne here_free, inr (not_empty b (items s.pool) front, inl (full m₂ e st, refl)))));
-      same = left_full m₂ e st;
-    }
-
-  pub sent_out : (m₂ : B) (e : Option Entry) (b u o : ℕ) (q : Ring ℕ) (x : Option ℕ) → n < s.limit → out_of old ≡ None → u ≡ b → e ≡ entry (settled_of old) (Some u) → Stores bm m₁ l e true m₂
+  pub sent_out : (m₂ : B) (e : Option Entry) (b u o : ℕ) (q : Ring ℕ) (x : Option ℕ) → n < s.limit → out_of old ≡ None → u ≡ b → e ≡ entry (settled_of old) (Some u) → Stores bm m₁ l e (Ok tt) m₂
       → Some b ≡ slice_get (items s.pool) 0 → Pops s.pool x q → o ≡ more s.out → SentOut bm sm s n b (over s m₂ q o)
   sent_out m₂ e b u o q x small free eu ee st front pops eo = record {
     small = small;
     free = ap out_of (sym old_is) ∙ free;
     fits = fits m₂ e (ap is_some ee ∙ some_entry (settled_of old) u) st;
     left = record {
-      kept = st.kept;
       fit = st.fit ∙ found.fit;
       pairs = stored m₂ e st ∙ ap (update eqb (bm.pairs s.entries) n) to_entry;
       streams = refl;
-      pool = subst (λ y. Pops s.pool y q) (pops.answer ∙ sym front) pops;
+      pool = front_pops s.pool q x b pops front;
       marks = refl;
       area = refl;
       out = eo;
@@ -103,7 +88,7 @@ module _ {L B S : Type 0} (bm : Ghosts B L Entry) (sm : Ghosts S StreamLabel Pos
       to_entry = ee ∙ (λ i. entry (settled_of (old_is i)) (Some (eu i)))
 
 module _ (k : Limits) (w : List ℕ) (f : ℕ → Option Entry) (x : ℕ → Option Position) (d : ℕ → mathlib.Core.Bool.Bool) (n : ℕ) (small : n < k.numbers) (free : out_of (f n) ≡ None) where
-  pub grants_it : (b : ℕ) (rest : List ℕ) → w ≡ b ∷ rest → k.blocks_fit (beside f n)
+  grants_it : (b : ℕ) (rest : List ℕ) → w ≡ b ∷ rest → k.blocks_fit (beside f n)
       → Step k (at w f x d) (begin n) (granted (pass n b)) (at rest (update eqb f n (entry (settled_of (f n)) (Some b))) x d)
   grants_it b rest e fits =
       inr (λ l. omega arith, inr (λ ne. ne free, inr (λ z. cons_nil (sym e ∙ z), inr (λ full. full.1 fits, (b, rest, e, refl, refl)))))
@@ -113,11 +98,17 @@ module _ (k : Limits) (w : List ℕ) (f : ℕ → Option Entry) (x : ℕ → Opt
 
 -- the granted call, from what it leaves
 module _ {L B S : Type 0} (bm : Ghosts B L Entry) (sm : Ghosts S StreamLabel Position) (h : History) (s t : Blocks L B S) (lived : Lived bm sm h s) (n b : ℕ) where
-  pub given_lives : SentOut bm sm s n b t → Lived bm sm ((begin n, granted (pass n b)) ∷ h) t
+  given_lives : SentOut bm sm s n b t → Lived bm sm ((begin n, granted (pass n b)) ∷ h) t
   given_lives sent =
       lives bm sm h s t (begin n) lived (granted (pass n b)) (update eqb (bm.pairs s.entries) n (entry (settled_of (bm.pairs s.entries n)) (Some b)))
-      (Pops s.pool (Some b)) s.marks.cells.now (more s.out) s.condemned sent.left
+      (Popped s.pool b) s.marks.cells.now (more s.out) s.condemned sent.left
       (items t.pool) refl sent.left.pool.places
       (grants_it (limits_of bm sm s) (items s.pool) (bm.pairs s.entries) (sm.pairs s.streams) (lost_in s.marks.cells.now) n sent.small sent.free b (items t.pool) sent.left.pool.items sent.fits)
       (omega (arith, lived.out, lived.small, outs_below (limits_of bm sm s) h (standing bm sm s) lived.run s.out lived.out))
       refl lived.condemned
+
+-- what a begin leaves goes by the rules
+module _ {L B S : Type 0} (bm : Ghosts B L Entry) (sm : Ghosts S StreamLabel Position) (s t : Blocks L B S) (n : ℕ) where
+  pub gives_goes : (r : Result ℕ Refusal) → Gives bm sm s n r t → Goes bm sm s (begin n) (given n r) t
+  gives_goes (Ok b) sent h lived = given_lives bm sm h s t lived n b sent
+  gives_goes (Err e) no' h lived = refused_lives bm sm h s t (begin n) lived e no'

@@ -6,6 +6,6 @@ mod slots;
 mod spread;
 mod turns;
 
-pub use marks::Place;
+pub use marks::{Link, Place};
 pub use slots::{Bucket, Mark, Slot};
 pub use spread::{MOST_BUCKETS, allowed, mask, pair, tag};

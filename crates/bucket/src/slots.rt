@@ -1,9 +1,13 @@
 // What a bucket holds, and its four slots by their numbers.
-ghost use Rattle.std.specs.Prelude.{◌≡◌, ℕ, ◌<◌, ◌≤◌, true, false, Decides, MatchOption};
+ghost use Rattle.std.specs.Prelude.{◌≡◌, ℕ, ◌<◌, ◌≤◌, true, false, Decides, MatchOption, length, slice_index_or};
+ghost use Rattle.std.specs.Borrow.{sem, Bor};
+ghost use Rattle.bucket.specs.Lending.{lends_slot};
+ghost use Rattle.bucket.specs.declared.slots.Slot.{Slot};
 ghost use Rattle.bucket.specs.Slots.{slot_of, Tagged, Full, Lowest, busy};
 
 use label::Label;
 
+// A flag and no `Option`: an unused slot keeps its tag, label and payload.
 #[derive(Clone, Copy, PartialEq, Eq, Debug)]
 pub struct Slot<L, V> {
     pub used: bool,
@@ -55,80 +59,66 @@ impl<L: Label, V: Copy> Slot<L, V> {
 }
 
 impl<L: Label, V: Copy> Bucket<L, V> {
-    pub fn slot(&self, k: usize) -> Slot<L, V>
-        ensures { result ≡ slot_of self.now k }
+    pub fn slot(&self, k: usize) -> &Slot<L, V>
+        ensures { result.now ≡ slot_of self.now k }
     {
         match k {
-            0 => self.s0,
-            1 => self.s1,
-            2 => self.s2,
-            _ => self.s3,
+            0 => &self.s0,
+            1 => &self.s1,
+            2 => &self.s2,
+            _ => &self.s3,
         }
     }
 
     pub fn payload(&self, k: usize) -> V
         ensures { result ≡ (slot_of self.now k).payload }
     {
-        match k {
-            0 => self.s0.payload,
-            1 => self.s1.payload,
-            2 => self.s2.payload,
-            _ => self.s3.payload,
-        }
+        self.slot(k).payload
     }
 
     pub fn label(&self, k: usize) -> L
         ensures { result ≡ (slot_of self.now k).label }
     {
+        self.slot(k).label
+    }
+
+    pub(crate) fn slot_mut(&mut self, k: usize) -> &mut Slot<L, V>
+        ensures* writes_back { sem 𝓛 (lends_slot L.row V.row self.entry k result) }
+        ensures value { result.now ≡ slot_of self.old k }
+    {
         match k {
-            0 => self.s0.label,
-            1 => self.s1.label,
-            2 => self.s2.label,
-            _ => self.s3.label,
+            0 => &mut self.s0,
+            1 => &mut self.s1,
+            2 => &mut self.s2,
+            _ => &mut self.s3,
         }
+    }
+
+    fn slots(&self) -> [&Slot<L, V>; 4]
+        ensures four { length result ≡ 4 }
+        ensures each { (k : ℕ) (d : Bor (Slot L V)) → k < 4 → (slice_index_or result k d).now ≡ slot_of self.now k }
+    {
+        [&self.s0, &self.s1, &self.s2, &self.s3]
     }
 
     // A used slot with the tag and the label.
     pub fn place(&self, tag: u16, label: L) -> Option<usize>
         ensures { MatchOption result ((k : ℕ) → Tagged L.Label (slot_of self.now k) tag (L.Label.number label) → ⊥) (λ k. (k < 4) × Tagged L.Label (slot_of self.now k) tag (L.Label.number label)) }
     {
-        if self.s0.holds(tag, label) {
-            Some(0)
-        } else if self.s1.holds(tag, label) {
-            Some(1)
-        } else if self.s2.holds(tag, label) {
-            Some(2)
-        } else if self.s3.holds(tag, label) {
-            Some(3)
-        } else {
-            None
-        }
+        self.slots().iter().position(|s| s.holds(tag, label))
     }
 
     // The lowest unused slot.
     pub fn vacancy(&self) -> Option<usize>
         ensures { MatchOption result (Full self.now) (Lowest self.now) }
     {
-        if !self.s0.used {
-            Some(0)
-        } else if !self.s1.used {
-            Some(1)
-        } else if !self.s2.used {
-            Some(2)
-        } else if !self.s3.used {
-            Some(3)
-        } else {
-            None
-        }
+        self.slots().iter().position(|s| !s.used)
     }
 
     pub fn used_slots(&self) -> usize
         ensures value { result ≡ busy self.now }
         ensures few { result ≤ 4 }
     {
-        self.s0.used as usize
-            + self.s1.used as usize
-            + self.s2.used as usize
-            + self.s3.used as usize
+        self.slots().iter().filter(|s| s.used).count()
     }
 }

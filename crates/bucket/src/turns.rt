@@ -18,35 +18,20 @@ impl<L: Label, V: Copy> Bucket<L, V> {
     pub fn fill(&mut self, k: usize, slot: Slot<L, V>)
         ensures { self.new ≡ with_slot self.old k slot }
     {
-        match k {
-            0 => self.s0 = slot,
-            1 => self.s1 = slot,
-            2 => self.s2 = slot,
-            _ => self.s3 = slot,
-        }
+        *self.slot_mut(k) = slot;
     }
 
     // The slot keeps its tag, label and payload, which mean nothing then.
     pub fn free(&mut self, k: usize)
         ensures { self.new ≡ freed k self.old }
     {
-        match k {
-            0 => self.s0.used = false,
-            1 => self.s1.used = false,
-            2 => self.s2.used = false,
-            _ => self.s3.used = false,
-        }
+        self.slot_mut(k).used = false;
     }
 
     pub fn repay(&mut self, k: usize, payload: V)
         ensures { self.new ≡ repaid k payload self.old }
     {
-        match k {
-            0 => self.s0.payload = payload,
-            1 => self.s1.payload = payload,
-            2 => self.s2.payload = payload,
-            _ => self.s3.payload = payload,
-        }
+        self.slot_mut(k).payload = payload;
     }
 
     // One label more of this first bucket lies elsewhere, and the filter knows it by its mask. The count never reaches its end: a table holds 16,384 labels at most.

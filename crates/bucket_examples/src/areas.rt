@@ -3,8 +3,8 @@ use crate::blanks::blank;
 use bucket::{Bucket, Mark, Slot};
 use bucket_map::{BucketMap, check as check_size};
 use checks::{check, check_eq};
-use insertion::Stored;
 use label::OldBlock;
+use map::Denied;
 use refusal::Refusal;
 use std::mem::size_of;
 use std::test::*;
@@ -87,8 +87,8 @@ fn holds_nothing(area: &mut [Bucket<OldBlock, u32>]) -> Result<(), Fail> {
         },
     )?;
     check(!map.ask(OldBlock(9)) && !map.ask(OldBlock(8)))?;
-    check_eq(map.put(OldBlock(9), 1), Stored::Full)?;
-    check_eq(map.put(OldBlock(8), 1), Stored::Full)?;
+    check_eq(map.put(OldBlock(9), 1), Err(Denied::Full))?;
+    check_eq(map.put(OldBlock(8), 1), Err(Denied::Full))?;
     check_eq(map.take(OldBlock(9)), None)?;
     check_eq(map.count(), 0)
 }

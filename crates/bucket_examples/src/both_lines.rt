@@ -1,5 +1,6 @@
 // Labels of the new line and of streams, payloads of several types, and lists of changes, beside a straight map.
 use crate::blanks::{blank, blank_row};
+use crate::puts::adds;
 use bucket_map::{BucketMap, Change};
 use checks::{check, check_eq};
 use insertion::Stored;
@@ -19,20 +20,17 @@ fn three_from(first: u32) -> Span {
     Span { first, count: 3 }
 }
 
-fn adds(map: &mut BucketMap<NewBlock, Span>, numbers: &[u32]) -> Result<(), Fail> {
-    for n in numbers.iter() {
-        check_eq(map.put(NewBlock(*n), three_from(*n)), Stored::Added(0))?;
-    }
-    Ok(())
+fn spanned(n: u32) -> (NewBlock, Span) {
+    (NewBlock(n), three_from(n))
 }
 
 // Of two buckets, 2, 3, 5, 6 and 7 have both, 0 and 4 the one at 0 twice, and 1, 9 and 10 the other twice.
 fn fill(map: &mut BucketMap<NewBlock, Span>) -> Result<(), Fail> {
-    adds(map, &[2, 3, 5, 6])?;
-    check_eq(map.put(NewBlock(0), three_from(0)), Stored::Added(1))?;
-    adds(map, &[1, 9, 10])?;
-    check_eq(map.put(NewBlock(7), three_from(7)), Stored::Full)?;
-    check_eq(map.put(NewBlock(4), three_from(4)), Stored::Full)?;
+    adds(map, [2, 3, 5, 6].map(spanned))?;
+    check_eq(map.put(NewBlock(0), three_from(0)), Ok(Stored::Added(1)))?;
+    adds(map, [1, 9, 10].map(spanned))?;
+    check_eq(map.put(NewBlock(7), three_from(7)), Err(Denied::Full))?;
+    check_eq(map.put(NewBlock(4), three_from(4)), Err(Denied::Full))?;
     check_eq(map.count(), 8)
 }
 
@@ -51,9 +49,9 @@ fn new_line_labels_with_spans() -> Result<(), Fail> {
     check_eq(map.take(NewBlock(0)), Some(three_from(0)))?;
     check_eq(
         map.put(NewBlock(3), three_from(8)),
-        Stored::Replaced(three_from(3)),
+        Ok(Stored::Replaced(three_from(3))),
     )?;
-    check_eq(map.put(NewBlock(7), three_from(7)), Stored::Added(0))
+    check_eq(map.put(NewBlock(7), three_from(7)), Ok(Stored::Added(0)))
 }
 
 fn stream(session: u8) -> StreamLabel {
@@ -105,10 +103,11 @@ fn one_bucket_serves_streams_as_four_rows_do() -> Result<(), Fail> {
 fn a_stream_moves_for_another() -> Result<(), Fail> {
     let mut area = [blank(NO_STREAM, 0u8); 2];
     let mut map = BucketMap::new(&mut area);
-    for session in [0, 1, 3, 6].iter() {
-        check_eq(map.put(stream(*session), *session), Stored::Added(0))?;
-    }
-    check_eq(map.put(stream(2), 2), Stored::Added(1))?;
+    adds(
+        &mut map,
+        [0, 1, 3, 6].map(|session| (stream(session), session)),
+    )?;
+    check_eq(map.put(stream(2), 2), Ok(Stored::Added(1)))?;
     check_eq(map.find(stream(0)).read, 2)?;
     check_eq(map.find(stream(0)).payload, Some(0))?;
     check_eq(map.find(stream(2)).read, 1)?;
@@ -137,22 +136,29 @@ fn labels_of_every_kind_by_the_interface() -> Result<(), Fail> {
     serves_a_pair(&mut BucketMap::new(&mut streams), stream(2), stream(9))
 }
 
-// Makes the changes on a straight map, and answers how many puts it denied.
-fn apply_straight<L: Label>(map: &mut StraightMap<L, u32>, changes: &[Change<L, u32>]) -> usize {
-    let mut denied = 0usize;
-    for change in changes.iter() {
-        match *change {
-            Change::Put(label, payload) => {
-                if map.put(label, payload).is_err() {
-                    denied = denied.wrapping_add(1);
-                }
-            }
-            Change::Take(label) => {
-                map.take(label);
-            }
+// Makes one change on a straight map. A put may be denied.
+fn change_straight<L: Label>(
+    map: &mut StraightMap<L, u32>,
+    change: Change<L, u32>,
+) -> Result<(), Denied> {
+    match change {
+        Change::Put(label, payload) => {
+            map.put(label, payload)?;
+        }
+        Change::Take(label) => {
+            map.take(label);
         }
     }
-    denied
+    Ok(())
+}
+
+// Makes the changes on a straight map, and answers how many puts it denied.
+fn apply_straight<L: Label>(map: &mut StraightMap<L, u32>, changes: &[Change<L, u32>]) -> usize {
+    changes
+        .iter()
+        .map(|change| change_straight(map, *change))
+        .filter(|made| made.is_err())
+        .count()
 }
 
 // Both maps have the same pairs with the labels.
@@ -161,7 +167,7 @@ fn agree<L: Label>(
     plain: &StraightMap<L, u32>,
     labels: &[L],
 ) -> Result<(), Fail> {
-    for label in labels.iter() {
+    for label in labels {
         check_eq(map.find(*label).payload, plain.find(*label))?;
     }
     check_eq(map.count(), plain.count())

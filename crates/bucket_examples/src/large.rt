@@ -1,11 +1,12 @@
 // A table of 4,096 buckets, filled with new-line labels until one does not fit.
 use crate::blanks::blank;
-use crate::upkeep::{first, second, well_kept};
+use crate::upkeep::{first, second, slots, well_kept};
 use bucket::Bucket;
 use bucket_map::BucketMap;
 use checks::{check, check_eq};
 use insertion::Stored;
 use label::{Label, NewBlock};
+use map::Denied;
 use std::test::*;
 
 // The label of a turn. No two are the same, since the factor is odd.
@@ -14,7 +15,7 @@ fn nth(i: u32) -> NewBlock {
 }
 
 // How many labels were put before one did not fit, and the most moves that a put made.
-#[derive(Clone, Copy)]
+#[derive(Clone, Copy, PartialEq, Eq, Debug)]
 struct Filled {
     count: u32,
     moves: usize,
@@ -24,14 +25,14 @@ fn fill(map: &mut BucketMap<NewBlock, u32>) -> Result<Filled, Fail> {
     let mut most = 0;
     for i in 0..16385 {
         match map.put(nth(i), i) {
-            Stored::Added(moves) => most = most.max(moves),
-            Stored::Full => {
+            Ok(Stored::Added(moves)) => most = most.max(moves),
+            Err(Denied::Full) => {
                 return Ok(Filled {
                     count: i,
                     moves: most,
                 });
             }
-            Stored::Replaced(_) => return Err(Fail::new("a label was there before")),
+            Ok(Stored::Replaced(_)) => return Err(Fail::new("a label was there before")),
         }
     }
     Err(Fail::new("more labels fit than there are slots"))
@@ -60,24 +61,20 @@ fn sixteen_thousand_labels_are_found() -> Result<(), Fail> {
 
 // Takes every third label out.
 fn takes_thirds(map: &mut BucketMap<NewBlock, u32>, count: u32) -> Result<(), Fail> {
-    for i in 0..count {
-        if i % 3 == 0 {
-            check_eq(map.take(nth(i)), Some(i))?;
-            check_eq(map.find(nth(i)).payload, None)?;
-        }
+    for i in (0..count).step_by(3) {
+        check_eq(map.take(nth(i)), Some(i))?;
+        check_eq(map.find(nth(i)).payload, None)?;
     }
     Ok(())
 }
 
 // Puts every third label in again: they fit, since they fitted before.
 fn puts_thirds(map: &mut BucketMap<NewBlock, u32>, count: u32) -> Result<(), Fail> {
-    for i in 0..count {
-        if i % 3 == 0 {
-            check(map.ask(nth(i)))?;
-            match map.put(nth(i), i) {
-                Stored::Added(moves) => check(moves <= 4095)?,
-                _ => return Err(Fail::new("a label did not fit again")),
-            }
+    for i in (0..count).step_by(3) {
+        check(map.ask(nth(i)))?;
+        match map.put(nth(i), i) {
+            Ok(Stored::Added(moves)) => check(moves <= 4095)?,
+            _ => return Err(Fail::new("a label did not fit again")),
         }
     }
     Ok(())
@@ -94,57 +91,57 @@ fn what_is_taken_out_of_a_full_table_fits_again() -> Result<(), Fail> {
         map.count(),
         (filled.count - filled.count.div_ceil(3)) as usize,
     )?;
-    check_eq(map.put(denied, 1), Stored::Added(0))?;
+    check_eq(map.put(denied, 1), Ok(Stored::Added(0)))?;
     check_eq(map.take(denied), Some(1))?;
     puts_thirds(&mut map, filled.count)?;
-    check_eq(map.put(denied, 1), Stored::Full)?;
+    check_eq(map.put(denied, 1), Err(Denied::Full))?;
     finds_all(&map, filled.count)?;
     well_kept(&area)
 }
 
 fn has(set: &[bool], i: u64) -> bool {
-    match set.get(i as usize) {
-        Some(x) => *x,
-        None => false,
-    }
+    set.get(i as usize).is_some_and(|inside| *inside)
 }
 
-// Adds a bucket to a set, and answers whether it is new there.
-fn joins(set: &mut [bool], i: u64) -> bool {
-    match set.get_mut(i as usize) {
-        Some(x) => {
-            let new = !*x;
-            *x = true;
-            new
-        }
-        None => false,
+fn add(set: &mut [bool], i: u64) {
+    if let Some(inside) = set.get_mut(i as usize) {
+        *inside = true;
     }
 }
 
 // Adds both buckets of a label.
-fn both_join(set: &mut [bool], label: NewBlock) -> bool {
+fn add_homes(set: &mut [bool], label: NewBlock) {
     let size = set.len() as u64;
-    let one = joins(set, first(label.digest(), size));
-    let other = joins(set, second(label.digest(), size));
-    one || other
+    add(set, first(label.digest(), size));
+    add(set, second(label.digest(), size));
+}
+
+// Whether both buckets of a label are in a set.
+fn has_homes(set: &[bool], label: NewBlock) -> bool {
+    let size = set.len() as u64;
+    has(set, first(label.digest(), size)) && has(set, second(label.digest(), size))
+}
+
+fn count(set: &[bool]) -> usize {
+    set.iter().filter(|inside| **inside).count()
 }
 
 // Adds the buckets of all labels that lie in the set, and answers whether one is new there.
 fn grows(area: &[Bucket<NewBlock, u32>], set: &mut [bool]) -> bool {
-    let mut new = false;
+    let before = count(set);
     for (i, bucket) in area.iter().enumerate() {
-        for k in 0..4 {
-            if has(set, i as u64) && both_join(set, bucket.label(k)) {
-                new = true;
-            }
+        if has(set, i as u64) {
+            slots(bucket)
+                .iter()
+                .for_each(|slot| add_homes(set, slot.label));
         }
     }
-    new
+    count(set) > before
 }
 
 // Makes an empty set that of the buckets which moves for a label could lead to.
 fn reach(area: &[Bucket<NewBlock, u32>], label: NewBlock, set: &mut [bool]) {
-    both_join(set, label);
+    add_homes(set, label);
     for _ in 0..4096 {
         if !grows(area, set) {
             return;
@@ -152,27 +149,16 @@ fn reach(area: &[Bucket<NewBlock, u32>], label: NewBlock, set: &mut [bool]) {
     }
 }
 
-// The labels in a bucket of the set have no bucket outside, and no slot is left for another.
-fn is_taken(bucket: &Bucket<NewBlock, u32>, set: &[bool]) -> Result<(), Fail> {
-    let size = set.len() as u64;
-    for k in 0..4 {
-        let slot = bucket.slot(k);
-        let digest = slot.label.digest();
-        check(slot.used)?;
-        check(has(set, first(digest, size)) && has(set, second(digest, size)))?;
-    }
-    Ok(())
-}
-
 // Both buckets of a label are in a set whose every slot is used by a label that can lie nowhere else: no arrangement has room for one more.
 fn cannot_fit(area: &[Bucket<NewBlock, u32>], label: NewBlock, set: &[bool]) -> Result<(), Fail> {
-    let size = set.len() as u64;
-    let digest = label.digest();
-    check(has(set, first(digest, size)) && has(set, second(digest, size)))?;
-    for (i, bucket) in area.iter().enumerate() {
-        if has(set, i as u64) {
-            is_taken(bucket, set)?;
-        }
+    check(has_homes(set, label))?;
+    for (bucket, inside) in area.iter().zip(set) {
+        check(
+            !inside
+                || slots(bucket)
+                    .iter()
+                    .all(|slot| slot.used && has_homes(set, slot.label)),
+        )?;
     }
     Ok(())
 }

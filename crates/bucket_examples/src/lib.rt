@@ -10,6 +10,8 @@ mod both_lines;
 #[cfg(test)]
 mod large;
 #[cfg(test)]
+mod puts;
+#[cfg(test)]
 mod runs;
 #[cfg(test)]
 mod small_tables;

@@ -6,6 +6,7 @@ use bucket_map::BucketMap;
 use checks::{check, check_eq};
 use insertion::Stored;
 use label::{BlockNumber, Label, NewBlock, OldBlock};
+use map::Denied;
 use std::test::*;
 use straight::{Row, StraightMap};
 
@@ -19,7 +20,7 @@ fn step(state: u64) -> u64 {
 // The label at a choice of 64. Of the old line each has 0, 1 or 4 for its second bucket, so that some buckets are crowded while others have room.
 fn choice<L: BlockNumber>(x: u32) -> L {
     let row = x / 8 % 8;
-    L::of(x % 8 + row * row % 8 * 256 + x % 64 * 65536)
+    L::from(x % 8 + row * row % 8 * 256 + x % 64 * 65536)
 }
 
 // The two buckets of a label, as bits.
@@ -29,34 +30,27 @@ fn homes<L: Label>(label: L) -> u32 {
     (1 << first) | (1 << second)
 }
 
-// How many of the labels have both buckets in a set of buckets. 0 stands for no label.
-fn confined(labels: &[u32], set: u32) -> u32 {
-    let mut count = 0u32;
-    for label in labels.iter() {
-        if *label != 0 && *label & set == *label {
-            count = count.wrapping_add(1);
-        }
-    }
-    count
+// How many labels have both buckets in a set of buckets.
+fn confined(labels: &[Option<u32>], set: u32) -> usize {
+    labels
+        .iter()
+        .flatten()
+        .filter(|homes| **homes & set == **homes)
+        .count()
 }
 
 // Whether the labels can be placed: no set of buckets has more labels to itself than slots.
-fn placeable(labels: &[u32]) -> bool {
-    for set in 0..256u32 {
-        if confined(labels, set) > set.count_ones().wrapping_mul(4) {
-            return false;
-        }
-    }
-    true
+fn placeable(labels: &[Option<u32>]) -> bool {
+    (0..256u32).all(|set| confined(labels, set) <= 4 * set.count_ones() as usize)
 }
 
 // The buckets of each label held and of one more.
-fn homes_with<L: BlockNumber>(plain: &StraightMap<L, u32>, more: L) -> [u32; 64] {
-    let mut labels = [0; 64];
-    for x in 0..64u32 {
+fn homes_with<L: BlockNumber>(plain: &StraightMap<L, u32>, more: L) -> [Option<u32>; 64] {
+    let mut labels = [None; 64];
+    for (x, homes_of) in (0..64u32).zip(labels.iter_mut()) {
         let label: L = choice(x);
         if label.same(more) || plain.find(label).is_some() {
-            labels[x as usize] = homes(label);
+            *homes_of = Some(homes(label));
         }
     }
     labels
@@ -68,91 +62,97 @@ fn has_room<L: BlockNumber>(plain: &StraightMap<L, u32>, label: L) -> bool {
 }
 
 // What a put of a label may answer, by whether there is room for it and what payload it had.
-fn right_answer(stored: Stored<u32>, old: Option<u32>, room: bool) -> Result<(), Fail> {
+fn right_answer(
+    stored: Result<Stored<u32>, Denied>,
+    old: Option<u32>,
+    room: bool,
+) -> Result<(), Fail> {
     match stored {
-        Stored::Replaced(payload) => check_eq(old, Some(payload)),
-        Stored::Added(moves) => {
+        Ok(Stored::Replaced(payload)) => check_eq(old, Some(payload)),
+        Ok(Stored::Added(moves)) => {
             check_eq(old, None)?;
             check(room && moves <= 7)
         }
-        Stored::Full => {
+        Err(Denied::Full) => {
             check_eq(old, None)?;
             check(!room)
         }
     }
 }
 
-// Puts a label into both maps, where it fits.
-fn put_both<L: BlockNumber>(
-    map: &mut BucketMap<L, u32>,
-    plain: &mut StraightMap<L, u32>,
-    label: L,
-    payload: u32,
-) -> Result<Stored<u32>, Fail> {
-    let room = has_room(plain, label);
-    let old = plain.find(label);
-    check_eq(map.ask(label), room)?;
-    let stored = map.put(label, payload);
-    right_answer(stored, old, room)?;
-    check_eq(map.ask(label), room)?;
-    if room {
-        check_eq(plain.put(label, payload), Ok(old))?;
-    }
-    Ok(stored)
-}
-
-// Asks both maps for the payload of a label.
-fn find_both<L: BlockNumber>(
-    map: &BucketMap<L, u32>,
-    plain: &StraightMap<L, u32>,
-    label: L,
-) -> Result<(), Fail> {
-    let found = map.find(label);
-    check_eq(found.payload, plain.find(label))?;
-    check(found.read == 1 || found.read == 2)
-}
-
-// What a run has met: how many puts were full, how many of them while a slot was unused, and the most moves that one made.
-#[derive(Clone, Copy)]
+// What a run has met: how many puts were full, how many of them while a slot was unused, and the most moves that one made. It is counted as the run goes, which keeps no list of its answers to filter.
+#[derive(Clone, Copy, PartialEq, Eq, Debug, Default)]
 struct Met {
     full: usize,
     crowded: usize,
     moves: usize,
 }
 
-fn met_also(met: Met, stored: Stored<u32>, count: usize) -> Met {
-    match stored {
-        Stored::Replaced(_) => met,
-        Stored::Added(moves) => Met {
-            moves: met.moves.max(moves),
-            ..met
-        },
-        Stored::Full => Met {
-            full: met.full.wrapping_add(1),
-            crowded: met.crowded.wrapping_add((count < 32) as usize),
-            ..met
-        },
+impl Met {
+    fn also(self, stored: Result<Stored<u32>, Denied>, count: usize) -> Met {
+        match stored {
+            Ok(Stored::Replaced(_)) => self,
+            Ok(Stored::Added(moves)) => Met {
+                moves: self.moves.max(moves),
+                ..self
+            },
+            Err(Denied::Full) => Met {
+                full: self.full.wrapping_add(1),
+                crowded: self.crowded.wrapping_add((count < 32) as usize),
+                ..self
+            },
+        }
+    }
+
+    fn is_telling(self) -> Result<(), Fail> {
+        check(self.full >= 500 && self.crowded >= 40)?;
+        check(self.moves >= 3)
     }
 }
 
-// One call of both maps, by a random-looking number: a put, or more seldom another.
-fn turn<L: BlockNumber>(
-    map: &mut BucketMap<L, u32>,
-    plain: &mut StraightMap<L, u32>,
-    state: u64,
-    met: Met,
-) -> Result<Met, Fail> {
-    let label: L = choice((state >> 32 & 63) as u32);
-    match state >> 60 {
-        0..3 => check_eq(map.take(label), plain.take(label))?,
-        3..6 => find_both(map, plain, label)?,
-        6 => check_eq(map.ask(label), has_room(plain, label))?,
-        _ => {
-            let stored = put_both(map, plain, label, (state >> 40) as u32)?;
-            return Ok(met_also(met, stored, map.count()));
+// A map and a straight map that are given the same calls.
+#[derive(Drop)]
+struct Both<'a, L: Label> {
+    map: BucketMap<'a, L, u32>,
+    plain: StraightMap<'a, L, u32>,
+}
+
+impl<'a, L: BlockNumber> Both<'a, L> {
+    // Puts a label into both maps, where it fits.
+    fn put(&mut self, label: L, payload: u32) -> Result<Result<Stored<u32>, Denied>, Fail> {
+        let room = has_room(&self.plain, label);
+        let old = self.plain.find(label);
+        check_eq(self.map.ask(label), room)?;
+        let stored = self.map.put(label, payload);
+        right_answer(stored, old, room)?;
+        check_eq(self.map.ask(label), room)?;
+        if room {
+            check_eq(self.plain.put(label, payload), Ok(old))?;
         }
+        Ok(stored)
     }
-    Ok(met)
+
+    // Asks both maps for the payload of a label.
+    fn find(&self, label: L) -> Result<(), Fail> {
+        let found = self.map.find(label);
+        check_eq(found.payload, self.plain.find(label))?;
+        check(found.read == 1 || found.read == 2)
+    }
+
+    // One call of both maps, by a random-looking number: a put, or more seldom another.
+    fn turn(&mut self, state: u64, met: Met) -> Result<Met, Fail> {
+        let label: L = choice((state >> 32 & 63) as u32);
+        match state >> 60 {
+            0..3 => check_eq(self.map.take(label), self.plain.take(label))?,
+            3..6 => self.find(label)?,
+            6 => check_eq(self.map.ask(label), has_room(&self.plain, label))?,
+            _ => {
+                let stored = self.put(label, (state >> 40) as u32)?;
+                return Ok(met.also(stored, self.map.count()));
+            }
+        }
+        Ok(met)
+    }
 }
 
 // A run of four thousand calls over an area, which is full again and again.
@@ -161,38 +161,31 @@ fn run<L: BlockNumber>(
     rows: &mut [Row<L, u32>],
     seed: u64,
 ) -> Result<Met, Fail> {
-    let mut map = BucketMap::new(area);
-    let mut plain = StraightMap::new(rows);
-    let mut state = seed;
-    let mut met = Met {
-        full: 0,
-        crowded: 0,
-        moves: 0,
+    let mut both = Both {
+        map: BucketMap::new(area),
+        plain: StraightMap::new(rows),
     };
+    let mut state = seed;
+    let mut met = Met::default();
     for _ in 0..4000 {
         state = step(state);
-        met = turn(&mut map, &mut plain, state, met)?;
+        met = both.turn(state, met)?;
     }
-    check_eq(map.count(), plain.count())?;
+    check_eq(both.map.count(), both.plain.count())?;
     well_kept(area)?;
     Ok(met)
-}
-
-fn is_telling(met: Met) -> Result<(), Fail> {
-    check(met.full >= 500 && met.crowded >= 40)?;
-    check(met.moves >= 3)
 }
 
 #[test]
 fn a_run_of_old_line_labels() -> Result<(), Fail> {
     let mut area = [blank(OldBlock(0), 0); 8];
     let mut rows = [blank_row(OldBlock(0), 0); 256];
-    is_telling(run(&mut area, &mut rows, 1)?)
+    run(&mut area, &mut rows, 1)?.is_telling()
 }
 
 #[test]
 fn a_run_of_new_line_labels() -> Result<(), Fail> {
     let mut area = [blank(NewBlock(0), 0); 8];
     let mut rows = [blank_row(NewBlock(0), 0); 256];
-    is_telling(run(&mut area, &mut rows, 1)?)
+    run(&mut area, &mut rows, 1)?.is_telling()
 }

@@ -1,10 +1,13 @@
 // Old-line labels in tables of one and of two buckets, slot by slot.
 use crate::blanks::blank;
+use crate::puts::adds;
+use crate::upkeep::slots;
 use bucket::{Bucket, Slot};
 use bucket_map::BucketMap;
 use checks::{check, check_eq, check_ne};
 use insertion::Stored;
 use label::OldBlock;
+use map::Denied;
 use std::test::*;
 use table::Found;
 
@@ -12,29 +15,39 @@ fn pair_of_blanks() -> [Bucket<OldBlock, u32>; 2] {
     [blank(OldBlock(0), 0); 2]
 }
 
-// The slot of a held label, whose payload is ten times its number.
+// A label with ten times its number for its payload.
+fn tenfold(number: u32) -> (OldBlock, u32) {
+    (OldBlock(number), number.wrapping_mul(10))
+}
+
+// The slot of such a label.
 fn held(number: u32, tag: u16) -> Slot<OldBlock, u32> {
+    let (label, payload) = tenfold(number);
     Slot {
         used: true,
         tag,
-        label: OldBlock(number),
-        payload: number.wrapping_mul(10),
+        label,
+        payload,
     }
 }
 
-// Puts each label, and sees that none needs a move.
-fn adds(map: &mut BucketMap<OldBlock, u32>, numbers: &[u32]) -> Result<(), Fail> {
-    for n in numbers.iter() {
-        check_eq(map.put(OldBlock(*n), n.wrapping_mul(10)), Stored::Added(0))?;
+// The slot of such a label once it is taken out.
+fn left(number: u32, tag: u16) -> Slot<OldBlock, u32> {
+    Slot {
+        used: false,
+        ..held(number, tag)
     }
-    Ok(())
+}
+
+fn found(payload: Option<u32>, read: u8) -> Found<u32> {
+    Found { payload, read }
 }
 
 #[test]
 fn a_fifth_label_goes_to_its_second_bucket() -> Result<(), Fail> {
     let mut area = pair_of_blanks();
     let mut map = BucketMap::new(&mut area);
-    adds(&mut map, &[0, 2, 4, 6, 256])?;
+    adds(&mut map, [0, 2, 4, 6, 256].map(tenfold))?;
     check_eq(area[1].s0, held(256, 0))?;
     check_eq(area[0].moved, 1)?;
     check_eq(area[0].filter, 1)
@@ -44,12 +57,12 @@ fn a_fifth_label_goes_to_its_second_bucket() -> Result<(), Fail> {
 fn a_label_moves_to_its_second_bucket_for_another() -> Result<(), Fail> {
     let mut area = pair_of_blanks();
     let mut map = BucketMap::new(&mut area);
-    adds(&mut map, &[256, 0, 2, 4])?;
-    check_eq(map.put(OldBlock(6), 60), Stored::Added(1))?;
-    check_eq(area[0].s0, held(6, 1536))?;
-    check_eq(area[0].s1, held(0, 0))?;
-    check_eq(area[0].s2, held(2, 512))?;
-    check_eq(area[0].s3, held(4, 1024))?;
+    adds(&mut map, [256, 0, 2, 4].map(tenfold))?;
+    check_eq(map.put(OldBlock(6), 60), Ok(Stored::Added(1)))?;
+    check_eq(
+        slots(&area[0]).map(|slot| *slot),
+        [held(6, 1536), held(0, 0), held(2, 512), held(4, 1024)],
+    )?;
     check_eq(area[1].s0, held(256, 0))
 }
 
@@ -57,8 +70,9 @@ fn a_label_moves_to_its_second_bucket_for_another() -> Result<(), Fail> {
 fn area_with(numbers: &[u32]) -> [Bucket<OldBlock, u32>; 2] {
     let mut area = pair_of_blanks();
     let mut map = BucketMap::new(&mut area);
-    for n in numbers.iter() {
-        map.put(OldBlock(*n), n.wrapping_mul(10));
+    for n in numbers {
+        let (label, payload) = tenfold(*n);
+        let _ = map.put(label, payload);
     }
     area
 }
@@ -66,12 +80,13 @@ fn area_with(numbers: &[u32]) -> [Bucket<OldBlock, u32>; 2] {
 fn is_full_for_eight(numbers: &[u32]) -> Result<(), Fail> {
     let mut area = pair_of_blanks();
     let mut map = BucketMap::new(&mut area);
-    for n in numbers.iter() {
-        check(map.ask(OldBlock(*n)))?;
-        check_ne(map.put(OldBlock(*n), n.wrapping_mul(10)), Stored::Full)?;
+    for n in numbers {
+        let (label, payload) = tenfold(*n);
+        check(map.ask(label))?;
+        check_ne(map.put(label, payload), Err(Denied::Full))?;
     }
     check(!map.ask(OldBlock(8)))?;
-    check_eq(map.put(OldBlock(8), 80), Stored::Full)?;
+    check_eq(map.put(OldBlock(8), 80), Err(Denied::Full))?;
     check(!map.ask(OldBlock(8)))?;
     check_eq(map.count(), 5)?;
     check_eq(area, area_with(numbers))
@@ -87,18 +102,11 @@ fn a_full_answer_leaves_the_area_as_it_was() -> Result<(), Fail> {
 fn a_yes_leaves_the_area_as_it_was() -> Result<(), Fail> {
     let mut area = pair_of_blanks();
     let mut map = BucketMap::new(&mut area);
-    adds(&mut map, &[256, 0, 2, 4])?;
+    adds(&mut map, [256, 0, 2, 4].map(tenfold))?;
     check(map.ask(OldBlock(6)))?;
     check(map.ask(OldBlock(1)))?;
     check(map.ask(OldBlock(256)))?;
     check_eq(area, area_with(&[256, 0, 2, 4]))
-}
-
-fn nothing_after(read: u8) -> Found<u32> {
-    Found {
-        payload: None,
-        read,
-    }
 }
 
 // The filter has the mask of 768, as it has that of 256.
@@ -106,11 +114,11 @@ fn nothing_after(read: u8) -> Found<u32> {
 fn a_filter_sends_a_find_on_while_a_label_is_elsewhere() -> Result<(), Fail> {
     let mut area = pair_of_blanks();
     let mut map = BucketMap::new(&mut area);
-    adds(&mut map, &[0, 2, 4, 6, 256])?;
-    check_eq(map.find(OldBlock(768)), nothing_after(2))?;
+    adds(&mut map, [0, 2, 4, 6, 256].map(tenfold))?;
+    check_eq(map.find(OldBlock(768)), found(None, 2))?;
     check_eq(map.take(OldBlock(256)), Some(2560))?;
-    check_eq(map.find(OldBlock(768)), nothing_after(1))?;
-    check_eq(map.find(OldBlock(256)), nothing_after(1))?;
+    check_eq(map.find(OldBlock(768)), found(None, 1))?;
+    check_eq(map.find(OldBlock(256)), found(None, 1))?;
     check_eq(area[0].moved, 0)?;
     check_eq(area[0].filter, 0)
 }
@@ -119,32 +127,20 @@ fn a_filter_sends_a_find_on_while_a_label_is_elsewhere() -> Result<(), Fail> {
 fn a_filter_without_the_mask_ends_a_find() -> Result<(), Fail> {
     let mut area = pair_of_blanks();
     let mut map = BucketMap::new(&mut area);
-    adds(&mut map, &[0, 2, 4, 6, 256])?;
-    check_eq(map.find(OldBlock(131328)), nothing_after(1))?;
-    check_eq(
-        map.find(OldBlock(256)),
-        Found {
-            payload: Some(2560),
-            read: 2,
-        },
-    )?;
-    check_eq(
-        map.find(OldBlock(6)),
-        Found {
-            payload: Some(60),
-            read: 1,
-        },
-    )
+    adds(&mut map, [0, 2, 4, 6, 256].map(tenfold))?;
+    check_eq(map.find(OldBlock(131328)), found(None, 1))?;
+    check_eq(map.find(OldBlock(256)), found(Some(2560), 2))?;
+    check_eq(map.find(OldBlock(6)), found(Some(60), 1))
 }
 
 #[test]
 fn one_bucket_has_room_for_four() -> Result<(), Fail> {
     let mut area = [blank(OldBlock(0), 0); 1];
     let mut map = BucketMap::new(&mut area);
-    adds(&mut map, &[1, 256, 3, 65536])?;
+    adds(&mut map, [1, 256, 3, 65536].map(tenfold))?;
     check(!map.ask(OldBlock(5)))?;
-    check_eq(map.put(OldBlock(5), 50), Stored::Full)?;
-    check_eq(map.find(OldBlock(5)), nothing_after(1))?;
+    check_eq(map.put(OldBlock(5), 50), Err(Denied::Full))?;
+    check_eq(map.find(OldBlock(5)), found(None, 1))?;
     check_eq(map.count(), 4)?;
     check_eq(area[0].moved, 0)?;
     check_eq(area[0].filter, 0)
@@ -154,12 +150,12 @@ fn one_bucket_has_room_for_four() -> Result<(), Fail> {
 fn a_held_label_gets_a_new_payload_where_others_find_it_full() -> Result<(), Fail> {
     let mut area = pair_of_blanks();
     let mut map = BucketMap::new(&mut area);
-    adds(&mut map, &[0, 2, 4, 6, 256])?;
-    check_eq(map.put(OldBlock(8), 80), Stored::Full)?;
+    adds(&mut map, [0, 2, 4, 6, 256].map(tenfold))?;
+    check_eq(map.put(OldBlock(8), 80), Err(Denied::Full))?;
     check(map.ask(OldBlock(2)) && map.ask(OldBlock(256)))?;
-    check_eq(map.put(OldBlock(2), 21), Stored::Replaced(20))?;
-    check_eq(map.put(OldBlock(256), 9), Stored::Replaced(2560))?;
-    check_eq(map.put(OldBlock(256), 8), Stored::Replaced(9))?;
+    check_eq(map.put(OldBlock(2), 21), Ok(Stored::Replaced(20)))?;
+    check_eq(map.put(OldBlock(256), 9), Ok(Stored::Replaced(2560)))?;
+    check_eq(map.put(OldBlock(256), 8), Ok(Stored::Replaced(9)))?;
     check_eq(map.find(OldBlock(2)).payload, Some(21))?;
     check_eq(map.find(OldBlock(256)).payload, Some(8))?;
     check_eq(map.count(), 5)?;
@@ -171,25 +167,13 @@ fn a_held_label_gets_a_new_payload_where_others_find_it_full() -> Result<(), Fai
 fn a_taken_label_leaves_its_traces() -> Result<(), Fail> {
     let mut area = pair_of_blanks();
     let mut map = BucketMap::new(&mut area);
-    adds(&mut map, &[2, 4, 6])?;
+    adds(&mut map, [2, 4, 6].map(tenfold))?;
     check_eq(map.take(OldBlock(4)), Some(40))?;
     check_eq(map.take(OldBlock(4)), None)?;
     check_eq(map.take(OldBlock(2)), Some(20))?;
     check_eq(map.count(), 1)?;
-    check_eq(
-        area[0].s0,
-        Slot {
-            used: false,
-            ..held(2, 512)
-        },
-    )?;
-    check_eq(
-        area[0].s1,
-        Slot {
-            used: false,
-            ..held(4, 1024)
-        },
-    )?;
+    check_eq(area[0].s0, left(2, 512))?;
+    check_eq(area[0].s1, left(4, 1024))?;
     check_eq(area[0].s2, held(6, 1536))
 }
 
@@ -197,12 +181,12 @@ fn a_taken_label_leaves_its_traces() -> Result<(), Fail> {
 fn the_lowest_unused_slot_is_next() -> Result<(), Fail> {
     let mut area = pair_of_blanks();
     let mut map = BucketMap::new(&mut area);
-    adds(&mut map, &[2, 4, 6])?;
+    adds(&mut map, [2, 4, 6].map(tenfold))?;
     check_eq(map.take(OldBlock(4)), Some(40))?;
     check_eq(map.take(OldBlock(2)), Some(20))?;
-    adds(&mut map, &[8, 10, 12])?;
-    check_eq(area[0].s0, held(8, 2048))?;
-    check_eq(area[0].s1, held(10, 2560))?;
-    check_eq(area[0].s2, held(6, 1536))?;
-    check_eq(area[0].s3, held(12, 3072))
+    adds(&mut map, [8, 10, 12].map(tenfold))?;
+    check_eq(
+        slots(&area[0]).map(|slot| *slot),
+        [held(8, 2048), held(10, 2560), held(6, 1536), held(12, 3072)],
+    )
 }

@@ -14,25 +14,40 @@ pub(crate) fn second(digest: u64, size: u64) -> u64 {
     first(digest / 4294967296, size)
 }
 
+pub(crate) fn slots<L: Label>(bucket: &Bucket<L, u32>) -> [&Slot<L, u32>; 4] {
+    [&bucket.s0, &bucket.s1, &bucket.s2, &bucket.s3]
+}
+
 fn bits(digest: u64) -> u64 {
     (1 << (digest / 65536 % 64)) | (1 << (digest / 4194304 % 64))
 }
 
 // Labels that lie elsewhere than in their first bucket: how many, and their bits together.
-#[derive(Clone, Copy)]
+#[derive(Clone, Copy, PartialEq, Eq, Debug, Default)]
 struct Away {
     count: u16,
     bits: u64,
 }
 
-fn away_also<L: Label>(away: Away, slot: Slot<L, u32>, home: u64, size: u64) -> Away {
-    let digest = slot.label.digest();
-    if slot.used && first(digest, size) == home {
-        Away {
-            count: away.count.wrapping_add(1),
-            bits: away.bits | bits(digest),
+impl Away {
+    fn also<L: Label>(self, slot: &Slot<L, u32>, home: u64, size: u64) -> Away {
+        let digest = slot.label.digest();
+        if slot.used && first(digest, size) == home {
+            Away {
+                count: self.count.wrapping_add(1),
+                bits: self.bits | bits(digest),
+            }
+        } else {
+            self
         }
-    } else {
+    }
+
+    // By a loop: a chain over slots with any kind of label would have to show that its iterators have a layout.
+    fn also_all<L: Label>(self, bucket: &Bucket<L, u32>, home: u64, size: u64) -> Away {
+        let mut away = self;
+        for slot in slots(bucket) {
+            away = away.also(slot, home, size);
+        }
         away
     }
 }
@@ -40,20 +55,17 @@ fn away_also<L: Label>(away: Away, slot: Slot<L, u32>, home: u64, size: u64) -> 
 // The labels whose first bucket is `home` and which lie elsewhere.
 fn away_from<L: Label>(area: &[Bucket<L, u32>], home: usize) -> Away {
     let size = area.len() as u64;
-    let mut away = Away { count: 0, bits: 0 };
+    let mut away = Away::default();
     for (i, bucket) in area.iter().enumerate() {
         if i != home {
-            away = away_also(away, bucket.s0, home as u64, size);
-            away = away_also(away, bucket.s1, home as u64, size);
-            away = away_also(away, bucket.s2, home as u64, size);
-            away = away_also(away, bucket.s3, home as u64, size);
+            away = away.also_all(bucket, home as u64, size);
         }
     }
     away
 }
 
 // A used slot has the tag of its label, and lies in one of the label's buckets.
-fn lies_right<L: Label>(slot: Slot<L, u32>, i: u64, size: u64) -> Result<(), Fail> {
+fn lies_right<L: Label>(slot: &Slot<L, u32>, i: u64, size: u64) -> Result<(), Fail> {
     let digest = slot.label.digest();
     check(!slot.used || slot.tag as u64 == digest / 281474976710656)?;
     check(!slot.used || first(digest, size) == i || second(digest, size) == i)
@@ -70,8 +82,8 @@ fn is_kept<L: Label>(bucket: &Bucket<L, u32>, away: Away) -> Result<(), Fail> {
 pub(crate) fn well_kept<L: Label>(area: &[Bucket<L, u32>]) -> Result<(), Fail> {
     let size = area.len() as u64;
     for (i, bucket) in area.iter().enumerate() {
-        for k in 0..4 {
-            lies_right(bucket.slot(k), i as u64, size)?;
+        for slot in slots(bucket) {
+            lies_right(slot, i as u64, size)?;
         }
         is_kept(bucket, away_from(area, i))?;
     }

@@ -1,38 +1,43 @@
 // A list of changes, one after the other.
 ghost use Rattle.std.specs.Prelude.{◌≡◌};
-ghost use Rattle.table.specs.Tables.{live, WellKept};
 ghost use Rattle.bucket_map.specs.Runs.{Changes, Applies};
 
 use crate::area::BucketMap;
 use label::Label;
+use map::Denied;
 
-#[derive(Clone, Copy)]
+// Data and no closure: what a list of changes leaves is said of its items.
+#[derive(Clone, Copy, PartialEq, Eq, Debug)]
 pub enum Change<L, V> {
     Put(L, V),
     Take(L),
 }
 
 impl<'a, L: Label, V: Copy> BucketMap<'a, L, V> {
-    // Makes one change, and answers whether it was a put that was full.
-    fn make(&mut self, change: Change<L, V>) -> bool
-        ensures { WellKept L.Label (live self.old.buckets.now) → Changes L.Label self.old.buckets.now self.new.buckets.now change result }
+    // Makes one change. A put may be denied.
+    #[tactic(auto, using(crate::proofs::Pairs::held_fits))]
+    fn make(&mut self, change: Change<L, V>) -> Result<(), Denied>
+        ensures { Changes L.Label self.old.buckets.now self.new.buckets.now change result }
     {
         match change {
-            Change::Put(label, payload) => self.put(label, payload).is_full(),
+            Change::Put(label, payload) => {
+                self.put(label, payload)?;
+            }
             Change::Take(label) => {
                 self.take(label);
-                false
             }
         }
+        Ok(())
     }
 
     // Makes the changes in order, and answers how many puts were full. Afterwards the map has the pairs of a plain map that was given the same list.
     pub fn apply(&mut self, changes: &[Change<L, V>]) -> usize
-        ensures { WellKept L.Label (live self.old.buckets.now) → Applies L.Label self.old.buckets.now changes.now result self.new.buckets.now }
+        ensures { Applies L.Label self.old.buckets.now changes.now result self.new.buckets.now }
     {
+        // By a loop: a chain whose closure changes the map would not tell what the map then holds.
         let mut full = 0;
         for change in changes {
-            if self.make(*change) {
+            if self.make(*change).is_err() {
                 full += 1;
             }
         }

@@ -7,8 +7,8 @@ ghost use Rattle.entry.specs.Turns.{Turns, event_of};
 
 use rules::Entry;
 
-// What happens to an entry; a block is the one that the grant shows.
-#[derive(Clone, Copy)]
+// What happens to an entry, in the five words of the rules; a block is the one that the grant shows.
+#[derive(Clone, Copy, PartialEq, Eq, Debug)]
 pub enum Event {
     Begin(u32),
     Commit(u32),
@@ -18,7 +18,7 @@ pub enum Event {
 }
 
 // The three ways in which a grant ends.
-#[derive(Clone, Copy)]
+#[derive(Clone, Copy, PartialEq, Eq, Debug)]
 pub enum Ending {
     Commit,
     Abandon,
@@ -26,6 +26,7 @@ pub enum Ending {
 }
 
 impl Ending {
+    // No `From`: the event shows the block that the grant shows.
     pub fn event(self, block: u32) -> Event
         ensures { result ≡ event_of self block }
     {
@@ -38,13 +39,14 @@ impl Ending {
 }
 
 // The entry that follows, the block that returns to the pool, and the block that is lost for good.
-#[derive(Clone, Copy)]
+#[derive(Clone, Copy, PartialEq, Eq, Debug)]
 pub struct Turn {
     pub entry: Option<Entry>,
     pub back: Option<u32>,
     pub lost: Option<u32>,
 }
 
+// A constructor for each fate of a block, so that `advance` reads as the table of the rules.
 impl Turn {
     // No block moves.
     fn to(entry: Option<Entry>) -> Turn
@@ -80,7 +82,7 @@ impl Turn {
     }
 }
 
-// What the event makes of the entry; none where the entry does not allow it.
+// What the event makes of the entry; none where the entry does not allow it. One match on both, so that each pair of the two stands in one place.
 pub fn advance(entry: Option<Entry>, event: Event) -> Option<Turn>
     ensures { Turns entry event result }
 {

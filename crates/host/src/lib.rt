@@ -12,6 +12,7 @@ use map::Map;
 use refusal::Refusal;
 use rules::{Entry, Position};
 
+// A flag and no closure: `took` is what the flash told of the write, and a closure for each ending would repeat this contract.
 fn settle<'a, L: BlockNumber, B: Map<L, Entry>, S: Map<StreamLabel, Position>>(
     service: &mut Blocks<'a, L, B, S>,
     grant: Grant,
@@ -37,11 +38,6 @@ pub fn program<'a, L: BlockNumber, B: Map<L, Entry>, S: Map<StreamLabel, Positio
     ensures step { (h : History) → Lived B.Map S.Map h service.old → Programs B.Map S.Map h n took result service.new }
     ensures faulty { (e : Refusal) → service.old.fault ≡ Some e → (result ≡ Err (e, None)) × (service.new ≡ service.old) }
 {
-    match service.begin(n) {
-        Ok(grant) => match settle(service, grant, took) {
-            Ok(block) => Ok(block),
-            Err((refusal, grant)) => Err((refusal, Some(grant))),
-        },
-        Err(refusal) => Err((refusal, None)),
-    }
+    let grant = service.begin(n).map_err(|refusal| (refusal, None))?;
+    settle(service, grant, took).map_err(|(refusal, grant)| (refusal, Some(grant)))
 }

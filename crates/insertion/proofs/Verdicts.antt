@@ -1,9 +1,11 @@
 -- What put and ask answer, from what was found out about the label.
-use Rattle.std.proofs.Common.{◌≡◌, ℕ, ◌<◌, ◌≤◌, true, false, cond, eqb, List, length, get_or, is_some, Some, None, Option, sym, refl, ap, ◌∙◌, subst, arith}
-use Rattle.std.proofs.lemmas.Bool.{cond-true, eq-eqb}
+use Rattle.std.proofs.Common.{◌≡◌, ℕ, ◌<◌, ◌≤◌, true, false, List, length, get_or, is_some, Some, None, Ok, Err, Option, Result, sym, refl, ap, ◌∙◌, arith}
+use Rattle.std.proofs.lemmas.Bool.Decides.{nat_tests}
+use Rattle.std.specs.Result.{IsErr}
 use Rattle.label.specs.declared.Label.{Ghosts}
-use Rattle.label.proofs.Sameness.{eqb_swap}
 use Rattle.map.specs.Meaning.{beside, changed}
+use Rattle.map.specs.declared.Denied.{Denied}
+use Rattle.map.specs.declared.Denied.TheVariants.{Full}
 use Rattle.map.proofs.Room.{held_room}
 use Rattle.bucket.specs.Changes.{modify, repaid}
 use Rattle.bucket.specs.Slots.{slot_of}
@@ -17,7 +19,6 @@ use Rattle.table.specs.Tables.{Lies, Nowhere, Sound, WellKept, first_of, live, l
 use Rattle.table.specs.declared.finding.Spot.{Spot}
 use Rattle.table.proofs.Alike.{repaid_look, repaid_sound}
 use Rattle.table.proofs.Answering.{live_right, live_wrong}
-use Rattle.table.proofs.Coming.{room}
 use Rattle.table.proofs.Looking.{look_at, look_none}
 use Rattle.table.proofs.Marks.{rest_repaid}
 use Rattle.table.proofs.Rule.{looks_lies, looks_nowhere}
@@ -25,12 +26,13 @@ use Rattle.marks.specs.Marks.{Marked, bucket_at}
 use Rattle.search.specs.Reached.{LowestAt, Reached, Trail, trail_of}
 use Rattle.placement.specs.Fit.{Fits}
 use Rattle.placement.proofs.Placing.{laws, used_up}
-use Rattle.insertion.specs.Chain.{Moved, start}
-use Rattle.insertion.specs.Plans.{Follows, Planned, UsedUp, Walkable}
+use Rattle.insertion.specs.Chain.{start}
+use Rattle.insertion.specs.Plans.{FindsOut, Follows, Planned, UsedUp, Walkable}
 use Rattle.insertion.specs.Putting.{Adds, Asks, Puts, Room}
 use Rattle.insertion.specs.declared.planning.Plan.{Plan}
-use Rattle.insertion.specs.declared.storing.Stored.TheVariants.{Added, Full, Replaced}
-use Rattle.insertion.proofs.Additions.{added_blank, added_few, added_length, added_look, added_room, added_sound, ended_room}
+use Rattle.insertion.specs.declared.storing.Stored.{Stored}
+use Rattle.insertion.specs.declared.storing.Stored.TheVariants.{Added, Replaced}
+use Rattle.insertion.proofs.Additions.{Grown, ended_room, grown}
 
 module _ {L V : Type 0} (kind : Ghosts L) (bs : List (Bucket L V)) (l : L) where
   abbrev n : ℕ
@@ -40,10 +42,10 @@ module _ {L V : Type 0} (kind : Ghosts L) (bs : List (Bucket L V)) (l : L) where
   wrong_room : allowed_size (length bs) ≡ false → Room kind bs n → ⊥
   wrong_room f room =
       let empty : length (live bs) ≡ 0 = ap length (live_wrong bs f) in
-      let some = (room.choice n (cond-true (eqb n n) true (is_some (look kind (live bs) n)) (eq-eqb n n refl))).0 in
+      let some = (room.choice n (grind (arith, nat_tests))).0 in
       omega arith
 
-  pub put_wrong : (v : V) → allowed_size (length bs) ≡ false → WellKept kind (live bs) → Puts kind bs l v Full bs
+  pub put_wrong : (v : V) → allowed_size (length bs) ≡ false → WellKept kind (live bs) → Puts kind bs l v (Err Full) bs
   put_wrong v f kept = record { kept = kept; size = refl; stores = (ap (λ z. look kind z n) (live_wrong bs f), wrong_room f, refl) }
 
   pub ask_wrong : allowed_size (length bs) ≡ false → Asks kind bs n false bs
@@ -54,10 +56,10 @@ module _ {L V : Type 0} (kind : Ghosts L) (bs : List (Bucket L V)) (l : L) where
     is_live = live_right bs t
 
     sound : Sound kind bs
-    sound = subst (Sound kind) is_live kept.sound
+    sound = rw is_live at kept.sound
 
     pub at_rest : unmarked bs ≡ bs
-    at_rest = subst (λ z. unmarked z ≡ z) is_live kept.blank
+    at_rest = rw is_live at kept.blank
 
     right : Allowed (length bs)
     right = allowed_true (length bs) t
@@ -69,7 +71,7 @@ module _ {L V : Type 0} (kind : Ghosts L) (bs : List (Bucket L V)) (l : L) where
     small = allowed_most (length bs) right
 
     live_room : Fits kind (length bs) (beside (look kind bs) n) → Room kind bs n
-    live_room h = subst (λ z. Fits kind (length z) (beside (look kind z) n)) (sym is_live) h
+    live_room h = rw is_live h
 
     -- a table after the call
     module _ (es : List (Bucket L V)) (size : length es ≡ length bs) where
@@ -77,7 +79,7 @@ module _ {L V : Type 0} (kind : Ghosts L) (bs : List (Bucket L V)) (l : L) where
       live_es = live_right es (ap allowed_size size ∙ t)
 
       kept_es : Sound kind es → unmarked es ≡ es → WellKept kind (live es)
-      kept_es s b = subst (WellKept kind) (sym live_es) (record { sound = s; blank = b })
+      kept_es s b = rw live_es (record { sound = s; blank = b })
 
       looks_es : (f : (ℕ → Option V) → ℕ → Option V) → ((q : ℕ) → look kind es q ≡ f (look kind bs) q) → (q : ℕ) → look kind (live es) q ≡ f (look kind (live bs)) q
       looks_es f h q = ap (λ z. look kind z q) live_es ∙ h q ∙ ap (λ z. f (look kind z) q) (sym is_live)
@@ -100,26 +102,23 @@ module _ {L V : Type 0} (kind : Ghosts L) (bs : List (Bucket L V)) (l : L) where
       pub ask_held : Asks kind bs n true bs
       ask_held = record { same = refl; answer = live_room (held_room (look kind bs) (Fits kind (length bs)) (laws kind bs sound) n (ap is_some held_look)) }
 
-      pub put_held : (v old : V) (es : List (Bucket L V)) → ((d : Bucket L V) → old ≡ (slot_of (get_or bs x.bucket d) x.slot).payload) → es ≡ modify (repaid x.slot v) bs x.bucket → Puts kind bs l v (Replaced old) es
+      pub put_held : (v old : V) (es : List (Bucket L V)) → ((d : Bucket L V) → old ≡ (slot_of (get_or bs x.bucket d) x.slot).payload) → es ≡ modify (repaid x.slot v) bs x.bucket → Puts kind bs l v (Ok (Replaced old)) es
       put_held v old es was area =
           let size : length es ≡ length bs = ap length area ∙ length_modify (repaid x.slot v) bs x.bucket in
           record {
             kept = kept_es es size
-                (subst (Sound kind) (sym area) (repaid_sound kind bs sound n x.bucket x.slot v lies))
-                (subst (λ z. unmarked z ≡ z) (sym area) (rest_repaid bs x.bucket x.slot v at_rest));
+                (rw area (repaid_sound kind bs sound n x.bucket x.slot v lies))
+                (rw area (rest_repaid bs x.bucket x.slot v at_rest));
             size = size;
             stores = (
               ap (λ z. look kind z n) is_live ∙ held_look ∙ ap Some (ap (λ b. (slot_of b x.slot).payload) y_is ∙ sym (was y)),
-              looks_es es size (λ f. changed f n (Some v)) (λ q. ap (λ z. look kind z q) area ∙ repaid_look kind bs sound n x.bucket x.slot v lies q
-                  ∙ ap (λ b. cond b (Some v) (look kind bs q)) (eqb_swap q n)),
-              λ i k h. elsewhere i k (subst (λ z. Lies kind z n i k) is_live h),
+              looks_es es size (λ f. changed f n (Some v)) (λ q. let put = repaid_look kind bs sound n x.bucket x.slot v lies q in rw area (grind (arith, nat_tests))),
+              λ i k h. elsewhere i k (rw is_live at h),
             );
           }
         where
           elsewhere : (i k : ℕ) → Lies kind bs n i k → es ≡ modify (repaid k v) bs i
-          elsewhere i k h =
-              let one = sound.once n x.bucket x.slot i k lies h in
-              area ∙ ap (λ z. modify (repaid z v) bs x.bucket) one.1 ∙ ap (modify (repaid k v) bs) one.0
+          elsewhere i k h = let one = sound.once n x.bucket x.slot i k lies h in cc
 
     -- ---- it is held nowhere
 
@@ -131,12 +130,12 @@ module _ {L V : Type 0} (kind : Ghosts L) (bs : List (Bucket L V)) (l : L) where
       none_look = ap (λ z. look kind z n) is_live ∙ look_none kind bs n none
 
       no_room : UsedUp kind bs n → Room kind bs n → ⊥
-      no_room u room = used_up kind bs n u.0 sound none u.1 (subst (λ z. Fits kind (length z) (beside (look kind z) n)) is_live room)
+      no_room u room = used_up kind bs n u.0 sound none u.1 (rw is_live at room)
 
-      pub put_full : (v : V) → UsedUp kind bs n → Puts kind bs l v Full bs
+      put_full : (v : V) → UsedUp kind bs n → Puts kind bs l v (Err Full) bs
       put_full v u = record { kept = kept; size = refl; stores = (none_look, no_room u, refl) }
 
-      pub ask_full : UsedUp kind bs n → Asks kind bs n false bs
+      ask_full : UsedUp kind bs n → Asks kind bs n false bs
       ask_full u = record { same = refl; answer = no_room u }
 
       module _ (ms : List (Bucket L V)) (q : Plan) (walk : Walkable ms q) (plan : Planned kind bs n ms q) where
@@ -147,72 +146,70 @@ module _ {L V : Type 0} (kind : Ghosts L) (bs : List (Bucket L V)) (l : L) where
         reached = plan.search.reached
 
         within : q.place < q.count
-        within = let w = walk.within in omega arith
+        within = omega arith
 
-        low : LowestAt bs (trail.bucket q.place) q.slot
-        low = subst (λ z. LowestAt bs z q.slot) walk.bucket plan.free
+        low : LowestAt bs (trail.bucket q.place) q.free.slot
+        low = rw walk.bucket at plan.free
 
         pub ask_ready : (gs : List (Bucket L V)) → (Marked ms q.count → gs ≡ unmarked ms) → Asks kind bs n true gs
         ask_ready gs blanked =
             record {
               same = blanked plan.search.marked ∙ plan.search.same;
-              answer = live_room (ended_room kind bs n trail q.place q.slot reached within low small sound none l refl);
+              answer = live_room (ended_room kind bs n trail q.place q.free.slot reached within low small sound none l refl);
             }
 
-        pub follows_start : Follows kind trail bs q.place q.slot ms q
+        pub follows_start : Follows kind trail bs q.place q.free.slot ms q
         follows_start =
             record {
               buckets = λ j. refl;
               parents = λ j. refl;
               slots = λ j. refl;
               starts = refl;
-              moved = subst (λ z. Moved kind trail bs q.place q.slot z (unmarked ms) q.place q.slot) (sym plan.none)
-                  (subst (λ z. Moved kind trail bs q.place q.slot 0 z q.place q.slot) (sym plan.search.same) start);
+              moved = rw (plan.none, plan.search.same) start;
             }
 
-        module _ (v : V) (ms' gs es : List (Bucket L V)) (q' : Plan) (follows : Follows kind trail bs q.place q.slot ms' q') (home : q'.place < q'.starts) (eb : q'.bucket ≡ bucket_at ms' q'.place) (blanked : gs ≡ unmarked ms') (area : es ≡ occupied kind gs n q'.bucket q'.slot l v) where
+        module _ (v : V) (ms' gs es : List (Bucket L V)) (q' : Plan) (follows : Follows kind trail bs q.place q.free.slot ms' q') (home : q'.place < q'.starts) (eb : q'.free.bucket ≡ bucket_at ms' q'.place) (blanked : gs ≡ unmarked ms') (area : es ≡ occupied kind gs n q'.free.bucket q'.free.slot l v) where
           at_start : q'.place < trail.starts
-          at_start = subst (λ z. q'.place < z) follows.starts home
+          at_start = let same = follows.starts in omega arith
 
-          abbrev added : List (Bucket L V)
-          added = occupied kind (unmarked ms') n (trail.bucket q'.place) q'.slot l v
+          area_is : es ≡ occupied kind (unmarked ms') n (trail.bucket q'.place) q'.free.slot l v
+          area_is = let same = follows.buckets q'.place in cc
 
-          area_is : es ≡ added
-          area_is =
-              area ∙ ap (λ z. occupied kind z n q'.bucket q'.slot l v) blanked
-              ∙ ap (λ z. occupied kind (unmarked ms') n z q'.slot l v) (eb ∙ follows.buckets q'.place)
-
-          size : length es ≡ length bs
-          size = ap length area_is ∙ added_length kind bs n trail q.place q.slot reached within low small sound none q'.moves (unmarked ms') q'.place q'.slot follows.moved at_start l v refl
+          more : Grown kind bs n v q'.moves es
+          more = rw area_is (grown kind bs n trail q.place q.free.slot reached within low small sound none q'.moves (unmarked ms') q'.place q'.free.slot follows.moved at_start l v refl)
 
           adds : Adds kind bs l v q'.moves es
           adds =
               record {
                 trail = trail;
                 place = q.place;
-                slot = q.slot;
+                slot = q.free.slot;
                 reached = reached;
                 ended = (within, low);
                 table = unmarked ms';
                 home = q'.place;
-                freed = q'.slot;
+                freed = q'.free.slot;
                 moved = follows.moved;
                 start = at_start;
                 area = area_is;
               }
 
-          pub put_added : Puts kind bs l v (Added q'.moves) es
+          pub put_added : Puts kind bs l v (Ok (Added q'.moves)) es
           put_added =
               record {
-                kept = kept_es es size
-                    (subst (Sound kind) (sym area_is) (added_sound kind bs n trail q.place q.slot reached within low small sound none q'.moves (unmarked ms') q'.place q'.slot follows.moved at_start l v refl))
-                    (subst (λ z. unmarked z ≡ z) (sym area_is) (added_blank kind bs n trail q.place q.slot reached within low small sound none q'.moves (unmarked ms') q'.place q'.slot follows.moved at_start l v refl at_rest));
-                size = size;
-                stores = (
-                  none_look,
-                  live_room (added_room kind bs n trail q.place q.slot reached within low small sound none q'.moves (unmarked ms') q'.place q'.slot follows.moved at_start l v refl),
-                  looks_es es size (λ f. changed f n (Some v)) (λ w. ap (λ z. look kind z w) area_is ∙ added_look kind bs n trail q.place q.slot reached within low small sound none q'.moves (unmarked ms') q'.place q'.slot follows.moved at_start l v refl w),
-                  added_few kind bs n trail q.place q.slot reached within low small sound none q'.moves (unmarked ms') q'.place q'.slot follows.moved at_start l v refl,
-                  adds,
-                );
+                kept = kept_es es more.long more.sound (more.blank at_rest);
+                size = more.long;
+                stores = (none_look, live_room more.room, looks_es es more.long (λ f. changed f n (Some v)) more.finds, more.few, adds);
               }
+
+    -- ---- it is denied, in the one way there is
+
+    module _ (ms : List (Bucket L V)) where
+      pub put_denied : (v : V) (e : Denied) (r : Result (Stored V) Denied) → IsErr r → FindsOut kind bs n ms (Err e) → Puts kind bs l v r ms
+      put_denied v Full (Ok s) is_err told = absurd (cc)
+      put_denied v Full (Err Full) is_err told =
+          let full = told.0 at_rest in
+          rw full.0 (put_full told.1.0 told.1.1 v full.1)
+
+      pub ask_denied : (e : Denied) → FindsOut kind bs n ms (Err e) → Asks kind bs n false ms
+      ask_denied Full told = let full = told.0 at_rest in rw full.0 (ask_full told.1.0 told.1.1 full.1)

@@ -7,9 +7,11 @@
 --   told r                what an answer of put tells but for the number of moves: full, the old payload, or that there was none
 --   is_full r             whether it was full
 -- Assumes nothing.
-use Rattle.std.specs.Prelude.{◌≡◌, ℕ, ◌<◌, Bool, true, false, List, length, Some, None, MatchBool, Option}
+use Rattle.std.specs.Prelude.{◌≡◌, ℕ, ◌<◌, Bool, true, false, List, length, Some, None, Ok, Err, MatchBool, Option, Result}
 use Rattle.label.specs.declared.Label.{Ghosts}
 use Rattle.map.specs.Meaning.{beside, changed}
+use Rattle.map.specs.declared.Denied.{Denied}
+use Rattle.map.specs.declared.Denied.TheVariants.{Full}
 use Rattle.bucket.specs.declared.slots.Bucket.{Bucket}
 use Rattle.bucket.specs.Changes.{modify, repaid}
 use Rattle.table.specs.Tables.{live, first_of, second_of, look, Lies, WellKept}
@@ -17,7 +19,7 @@ use Rattle.table.specs.Moving.{occupied}
 use Rattle.search.specs.Reached.{Trail, Reached, LowestAt}
 use Rattle.placement.specs.Fit.{Fits}
 use Rattle.insertion.specs.declared.storing.Stored.{Stored}
-use Rattle.insertion.specs.declared.storing.Stored.TheVariants.{Replaced, Added, Full}
+use Rattle.insertion.specs.declared.storing.Stored.TheVariants.{Replaced, Added}
 use Rattle.insertion.specs.Chain.{Moved}
 
 module _ {L V : Type 0} (kind : Ghosts L) (bs : List (Bucket L V)) where
@@ -40,18 +42,18 @@ module _ {L V : Type 0} (kind : Ghosts L) (bs : List (Bucket L V)) where
     -- where the new label goes
     pub area : es ≡ occupied kind table (kind.number l) (trail.bucket home) freed l v
 
-  abbrev pub Stores : L → V → List (Bucket L V) → Stored V → Type 0
-  Stores l v es (Replaced old) =
+  abbrev pub Stores : L → V → List (Bucket L V) → Result (Stored V) Denied → Type 0
+  Stores l v es (Ok (Replaced old)) =
       (look kind (live bs) (kind.number l) ≡ Some old)
       × ((m : ℕ) → look kind (live es) m ≡ changed (look kind (live bs)) (kind.number l) (Some v) m)
       × ((i k : ℕ) → Lies kind (live bs) (kind.number l) i k → es ≡ modify (repaid k v) bs i)
-  Stores l v es (Added m) =
+  Stores l v es (Ok (Added m)) =
       (look kind (live bs) (kind.number l) ≡ None) × Room (kind.number l)
       × ((q : ℕ) → look kind (live es) q ≡ changed (look kind (live bs)) (kind.number l) (Some v) q)
       × (m < length bs) × Adds l v m es
-  Stores l v es Full = (look kind (live bs) (kind.number l) ≡ None) × (Room (kind.number l) → ⊥) × (es ≡ bs)
+  Stores l v es (Err Full) = (look kind (live bs) (kind.number l) ≡ None) × (Room (kind.number l) → ⊥) × (es ≡ bs)
 
-  pub record Puts (l : L) (v : V) (r : Stored V) (es : List (Bucket L V)) : Type 0 where
+  pub record Puts (l : L) (v : V) (r : Result (Stored V) Denied) (es : List (Bucket L V)) : Type 0 where
     pub kept : WellKept kind (live es)
     pub size : length es ≡ length bs
     pub stores : Stores l v es r
@@ -60,12 +62,11 @@ module _ {L V : Type 0} (kind : Ghosts L) (bs : List (Bucket L V)) where
     pub same : es ≡ bs
     pub answer : MatchBool r (Room n) (Room n → ⊥)
 
-abbrev pub told : {V : Type 0} → Stored V → Option (Option V)
-told (Replaced old) = Some (Some old)
-told (Added m) = Some None
-told Full = None
+abbrev pub told : {V : Type 0} → Result (Stored V) Denied → Option (Option V)
+told (Ok (Replaced old)) = Some (Some old)
+told (Ok (Added m)) = Some None
+told (Err Full) = None
 
-abbrev pub is_full : {V : Type 0} → Stored V → Bool
-is_full (Replaced old) = false
-is_full (Added m) = false
-is_full Full = true
+abbrev pub is_full : {V : Type 0} → Result (Stored V) Denied → Bool
+is_full (Ok r) = false
+is_full (Err Full) = true

@@ -20,15 +20,21 @@ pub trait Label: Copy {
     // The digest, by the number alone.
     ghost spread: { ℕ → ℕ };
 
+    fn number(self) -> u32
+        ensures { result ≡ number self };
+
     fn same(self, other: Self) -> bool
-        ensures { result ≡ eqb (number self) (number other) };
+        ensures { result ≡ eqb (number self) (number other) }
+    {
+        self.number() == other.number()
+    }
 
     fn digest(self) -> u64
         ensures { result ≡ spread (number self) };
 }
 
 // A label that is a block number, and is made from one.
-pub trait BlockNumber: Label {
-    fn of(n: u32) -> Self
-        ensures { Self.Label.number result ≡ n };
+pub trait BlockNumber: Label + From<u32> {
+    // The label made from a number has that number.
+    ghost made: { (n : ℕ) (l : Self) → Self.From.from_gives n l → Self.Label.number l ≡ n };
 }

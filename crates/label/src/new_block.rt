@@ -1,4 +1,5 @@
 // The block number of the new line of cards, spread by a mix of its bits.
+ghost use Rattle.std.specs.Prelude.{◌≡◌};
 ghost use Rattle.label.specs.Digests.{mixed};
 
 use crate::digest::mix;
@@ -12,17 +13,23 @@ impl Label for NewBlock {
 
     ghost spread = { mixed };
 
-    fn same(self, other: NewBlock) -> bool {
-        self.0 == other.0
+    fn number(self) -> u32 {
+        self.0
     }
 
     fn digest(self) -> u64 {
-        mix(self.0 as u64)
+        mix(self.number() as u64)
+    }
+}
+
+impl From<u32> for NewBlock {
+    ghost from_gives = { λ n l. l.0 ≡ n };
+
+    fn from(n: u32) -> NewBlock {
+        NewBlock(n)
     }
 }
 
 impl BlockNumber for NewBlock {
-    fn of(n: u32) -> NewBlock {
-        NewBlock(n)
-    }
+    ghost made = { λ n l e. e };
 }

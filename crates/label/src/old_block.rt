@@ -1,9 +1,11 @@
 // The block number of the old line of cards, spread by its own bits.
+ghost use Rattle.std.specs.Prelude.{◌≡◌};
 ghost use Rattle.label.specs.Digests.{old_digest};
 
 use crate::digest::old_digest;
 use crate::{BlockNumber, Label};
 
+// Beside `NewBlock` and not one generic type with it: that would need a marker type for each line, and `OldBlock(7)` could not be written.
 #[derive(Clone, Copy, PartialEq, Eq, Debug)]
 pub struct OldBlock(pub u32);
 
@@ -12,17 +14,23 @@ impl Label for OldBlock {
 
     ghost spread = { old_digest };
 
-    fn same(self, other: OldBlock) -> bool {
-        self.0 == other.0
+    fn number(self) -> u32 {
+        self.0
     }
 
     fn digest(self) -> u64 {
-        old_digest(self.0)
+        old_digest(self.number())
+    }
+}
+
+impl From<u32> for OldBlock {
+    ghost from_gives = { λ n l. l.0 ≡ n };
+
+    fn from(n: u32) -> OldBlock {
+        OldBlock(n)
     }
 }
 
 impl BlockNumber for OldBlock {
-    fn of(n: u32) -> OldBlock {
-        OldBlock(n)
-    }
+    ghost made = { λ n l e. e };
 }

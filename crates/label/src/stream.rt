@@ -34,8 +34,8 @@ impl Label for StreamLabel {
 
     ghost spread = { mixed };
 
-    fn same(self, other: StreamLabel) -> bool {
-        self.number() == other.number()
+    fn number(self) -> u32 {
+        StreamLabel::number(self)
     }
 
     fn digest(self) -> u64 {

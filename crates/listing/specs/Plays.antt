@@ -1,4 +1,5 @@
 -- What a whole tape is to a service.
+--   Stands f g o new  the outcome o and the calls and answers new are those of one answer, by f and g
 --   Tells c o new     the call c of a tape, with the outcome o, stands for the calls and answers new, the newest first
 --   Plays rs ls h     the readings rs of a tape, played in order, give the lines ls and the history h
 --   faulted e rs      the lines of a service whose check failed with e
@@ -6,14 +7,12 @@
 --   PlaysOn s rs ls t   the readings rs add the lines ls, and leave the service s as t
 --   Played T s ls t   the whole tape T does so
 -- Assumes nothing.
-use Rattle.std.specs.Prelude.{◌≡◌, ℕ, List, [], ◌∷◌, ◌++◌, Some, Ok, Err, Option, Result}
+use Rattle.std.specs.Prelude.{◌≡◌, ℕ, List, [], ◌∷◌, ◌++◌, Some, Ok, Err, Result}
 use Rattle.refusal.specs.declared.Refusal.{Refusal}
 use Rattle.label.specs.declared.stream.StreamLabel.{StreamLabel}
 use Rattle.map.specs.declared.Map.{Ghosts}
 use Rattle.rules.specs.declared.Entry.{Entry}
 use Rattle.rules.specs.declared.Position.{Position}
-use Rattle.rules.specs.declared.Tally.{Tally}
-use Rattle.rules.specs.Calls as calls
 use Rattle.rules.specs.Calls.Call.{begin, read, trim, tally}
 use Rattle.rules.specs.Calls.Answer.{granted, block, refused}
 use Rattle.rules.specs.History.{History}
@@ -26,9 +25,9 @@ use Rattle.tape.specs.declared.calls.Call.TheVariants.{Write, Drop, Spoil, Read,
 use Rattle.tape.specs.declared.fields.Reading.{Reading}
 use Rattle.tape.specs.Tapes.{Tape}
 use Rattle.listing.specs.declared.lines.Line.{Line}
-use Rattle.listing.specs.declared.lines.Outcome.{Outcome}
-use Rattle.listing.specs.declared.lines.Outcome.TheVariants.{Fault}
-use Rattle.listing.specs.Lines.{ended_outcome, found_outcome, tally_outcome, Obeys}
+use Rattle.listing.specs.declared.lines.Reply.{Reply}
+use Rattle.listing.specs.declared.lines.Reply.TheVariants.{Block, Counts}
+use Rattle.listing.specs.Lines.{reply_of, replied, Obeys}
 
 -- ---- one call
 
@@ -37,28 +36,26 @@ abbrev pub events_of : Ending → ℕ → Result ℕ Refusal → History
 events_of k n (Ok b) = (end_call k (pass n b), block (Some b)) ∷ ((begin n, granted (pass n b)) ∷ [])
 events_of k n (Err e) = (begin n, refused e) ∷ []
 
-abbrev pub Passing : Ending → ℕ → Outcome → History → Type 0
-Passing k n o new = (r : Result ℕ Refusal) × (o ≡ ended_outcome r) × (new ≡ events_of k n r)
+-- the service answered some r, f makes its reply, and its calls and answers are these
+abbrev pub Stands : {A : Type 0} → (A → Reply) → (Result A Refusal → History) → Result Reply Refusal → History → Type 0
+Stands {A} f events o new = (r : Result A Refusal) × (o ≡ replied f r) × (new ≡ events r)
 
-abbrev pub Finding : calls.Call → Outcome → History → Type 0
-Finding c o new = (r : Result (Option ℕ) Refusal) × (o ≡ found_outcome r) × (new ≡ ((c, found r) ∷ []))
-
-abbrev pub Tells : Call → Outcome → History → Type 0
-Tells (Write n) o new = Passing Commit n o new
-Tells (Drop n) o new = Passing Abandon n o new
-Tells (Spoil n) o new = Passing Condemn n o new
-Tells (Read n) o new = Finding (read n) o new
-Tells (Trim n) o new = Finding (trim n) o new
-Tells CallTally o new = (r : Result Tally Refusal) × (o ≡ tally_outcome r) × (new ≡ ((tally, tallied r) ∷ []))
+abbrev pub Tells : Call → Result Reply Refusal → History → Type 0
+Tells (Write n) o new = Stands Block (events_of Commit n) o new
+Tells (Drop n) o new = Stands Block (events_of Abandon n) o new
+Tells (Spoil n) o new = Stands Block (events_of Condemn n) o new
+Tells (Read n) o new = Stands reply_of (λ r. (read n, found r) ∷ []) o new
+Tells (Trim n) o new = Stands reply_of (λ r. (trim n, found r) ∷ []) o new
+Tells CallTally o new = Stands Counts (λ r. (tally, tallied r) ∷ []) o new
 
 -- ---- all readings, the last one last
 
 pub data Plays : List Reading → List Line → History → Type 0 where
   nothing : Plays [] [] []
-  call : (rs : List Reading) (ls : List Line) (h : History) (p : ℕ) (c : Call) (o : Outcome) (new : History) → Plays rs ls h → Tells c o new
+  call : (rs : List Reading) (ls : List Line) (h : History) (p : ℕ) (c : Call) (o : Result Reply Refusal) (new : History) → Plays rs ls h → Tells c o new
       → Plays (rs ++ record { place = p; outcome = Ok c } ∷ []) (ls ++ record { place = p; outcome = o } ∷ []) (new ++ h)
   fault : (rs : List Reading) (ls : List Line) (h : History) (p : ℕ) (e : Refusal) → Plays rs ls h
-      → Plays (rs ++ record { place = p; outcome = Err e } ∷ []) (ls ++ record { place = p; outcome = Fault e } ∷ []) h
+      → Plays (rs ++ record { place = p; outcome = Err e } ∷ []) (ls ++ record { place = p; outcome = Err e } ∷ []) h
 
 -- a fault of the tape itself stands, and every call is refused
 abbrev pub fault_of : Refusal → Result Call Refusal → Refusal
@@ -67,14 +64,14 @@ fault_of e (Err f) = f
 
 abbrev pub faulted : Refusal → List Reading → List Line
 faulted e [] = []
-faulted e (r ∷ rs) = record { place = r.place; outcome = Fault (fault_of e r.outcome) } ∷ faulted e rs
+faulted e (r ∷ rs) = record { place = r.place; outcome = Err (fault_of e r.outcome) } ∷ faulted e rs
 
 -- ---- on a service
 
 module _ {L B S : Type 0} (bm : Ghosts B L Entry) (sm : Ghosts S StreamLabel Position) where
-  abbrev pub Came : Blocks L B S → Result Call Refusal → Outcome → Blocks L B S → Type 0
+  abbrev pub Came : Blocks L B S → Result Call Refusal → Result Reply Refusal → Blocks L B S → Type 0
   Came s (Ok c) o t = Obeys bm sm s c o t
-  Came s (Err e) o t = (o ≡ Fault e) × (t ≡ s)
+  Came s (Err e) o t = (o ≡ Err e) × (t ≡ s)
 
   pub record Adds (s : Blocks L B S) (r : Reading) (l : Line) (t : Blocks L B S) : Type 0 where
     pub place : l.place ≡ r.place

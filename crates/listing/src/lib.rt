@@ -4,5 +4,5 @@
 mod lines;
 mod playing;
 
-pub use lines::{Line, Outcome};
+pub use lines::{Line, Reply};
 pub use playing::{list, obey, play};

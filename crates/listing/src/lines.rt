@@ -1,5 +1,6 @@
 // The lines of a listing, as values and as text.
-ghost use Rattle.std.specs.Prelude.{Some};
+ghost use Rattle.std.specs.Prelude.{◌≡◌, Some};
+ghost use Rattle.listing.specs.Lines.{reply_of};
 ghost use Rattle.listing.specs.Text.{line_text};
 
 use refusal::Refusal;
@@ -7,20 +8,27 @@ use rules::Tally;
 use std::fmt;
 use std::fmt::{Display, Formatter};
 
-// What came of one field.
-#[derive(Clone, Copy)]
-pub enum Outcome {
+// What the service said to a call of a tape.
+#[derive(Clone, Copy, PartialEq, Eq, Debug)]
+pub enum Reply {
     Block(u32),
     Nothing,
     Counts(Tally),
-    Fault(Refusal),
 }
 
-// The place of a field on its tape, and what came of it.
-#[derive(Clone, Copy)]
+impl From<Option<u32>> for Reply {
+    ghost from_gives = { λ block reply. reply ≡ reply_of block };
+
+    fn from(block: Option<u32>) -> Reply {
+        block.map_or(Reply::Nothing, Reply::Block)
+    }
+}
+
+// The place of a field on its tape, and what came of it. Not one generic type with a reading of the tape: its text could not be written for a type of another crate.
+#[derive(Clone, Copy, PartialEq, Eq, Debug)]
 pub struct Line {
     pub place: usize,
-    pub outcome: Outcome,
+    pub outcome: Result<Reply, Refusal>,
 }
 
 impl Display for Line {
@@ -29,22 +37,19 @@ impl Display for Line {
     fn fmt<W: fmt::Write>(&self, f: &mut Formatter<W>) -> fmt::Result {
         let place = self.place;
         match self.outcome {
-            Outcome::Block(block) => write!(f, "{place} ok {block}"),
-            Outcome::Nothing => write!(f, "{place} none"),
-            Outcome::Counts(counts) => {
-                let Tally {
-                    waiting,
-                    out,
-                    settled,
-                    condemned,
-                } = counts;
-                write!(f, "{place} tally {waiting} {out} {settled} {condemned}")
-            }
-            Outcome::Fault(refusal) => {
-                let layer = refusal.layer().number();
-                let number = refusal.number();
-                write!(f, "{place} fault {layer} {number}")
-            }
+            Ok(Reply::Block(block)) => write!(f, "{place} ok {block}"),
+            Ok(Reply::Nothing) => write!(f, "{place} none"),
+            Ok(Reply::Counts(n)) => write!(
+                f,
+                "{place} tally {} {} {} {}",
+                n.waiting, n.out, n.settled, n.condemned
+            ),
+            Err(refusal) => write!(
+                f,
+                "{place} fault {} {}",
+                refusal.layer().number(),
+                refusal.number()
+            ),
         }
     }
 }

@@ -17,17 +17,17 @@ module _ {A B L V : Type 0} (am : Ghosts A L V) (bm : Ghosts B L V) where
 
   pub record Alike (a : A) (b : B) : Type 0 where
     pub find : Agree a b → (n : ℕ) (r s : Option V) (a' : A) (b' : B)
-        → Finds am.kept am.pairs am.shape am.fits a n r a' → Finds bm.kept bm.pairs bm.shape bm.fits b n s b'
+        → Finds am.pairs am.shape am.fits a n r a' → Finds bm.pairs bm.shape bm.fits b n s b'
         → (r ≡ s) × Agree a' b'
     pub ask : Agree a b → (n : ℕ) (r s : Bool) (a' : A) (b' : B)
-        → Asks am.kept am.pairs am.shape am.fits a n r a' → Asks bm.kept bm.pairs bm.shape bm.fits b n s b'
+        → Asks am.pairs am.shape am.fits a n r a' → Asks bm.pairs bm.shape bm.fits b n s b'
         → (r ≡ s) × Agree a' b'
     pub put : Agree a b → (n : ℕ) (v : V) (r s : Result (Option V) Denied) (a' : A) (b' : B)
-        → Puts am.kept am.pairs am.shape am.fits a n v r a' → Puts bm.kept bm.pairs bm.shape bm.fits b n v s b'
+        → Puts am.pairs am.shape am.fits a n v r a' → Puts bm.pairs bm.shape bm.fits b n v s b'
         → (r ≡ s) × Agree a' b'
     pub take : Agree a b → (n : ℕ) (r s : Option V) (a' : A) (b' : B)
-        → Takes am.kept am.pairs am.shape am.fits a n r a' → Takes bm.kept bm.pairs bm.shape bm.fits b n s b'
+        → Takes am.pairs am.shape am.fits a n r a' → Takes bm.pairs bm.shape bm.fits b n s b'
         → (r ≡ s) × Agree a' b'
     pub count : Agree a b → (r s : ℕ) (a' : A) (b' : B)
-        → Counted am.kept am.pairs am.shape am.fits a r a' → Counted bm.kept bm.pairs bm.shape bm.fits b s b'
+        → Counted am.pairs am.shape am.fits a r a' → Counted bm.pairs bm.shape bm.fits b s b'
         → (r ≡ s) × Agree a' b'

@@ -5,10 +5,8 @@
 --   Lawful f F         what holds of the pairs and the fit of every map
 --   Put f F l v g r    what a put of v at l answers, r, and the pairs after it, g
 --   Finds, Asks, Puts, Takes, Counted
---                      the five calls, on a map m that is well kept: the label's number n, the payload v, the answer r and the map after it, m'
+--                      the five calls, on a map m: the label's number n, the payload v, the answer r and the map after it, m'
 -- Each call has the fields
---   laws    the pairs and the fit are lawful
---   kept    the map is still well kept
 --   fit     its shape, and so its fit, has not changed
 --   after   the pairs after the call, which a put has in its answer
 --   answer  what is answered
@@ -38,37 +36,27 @@ abbrev pub Put : {V : Type 0} → (ℕ → Option V) → ((ℕ → Bool) → Typ
 Put f F l v g (Ok old) = (old ≡ f l) × F (beside f l) × (g ≡ changed f l (Some v))
 Put f F l v g (Err Full) = (f l ≡ None) × (F (beside f l) → ⊥) × (g ≡ f)
 
-module _ {M V : Type 0} (well : M → Type 0) (pairs : M → ℕ → Option V) (shape : M → ℕ) (fits : ℕ → (ℕ → Bool) → Type 0) (m : M) where
+module _ {M V : Type 0} (pairs : M → ℕ → Option V) (shape : M → ℕ) (fits : ℕ → (ℕ → Bool) → Type 0) (m : M) where
   pub record Finds (n : ℕ) (r : Option V) (m' : M) : Type 0 where
-    pub laws : Lawful (pairs m) (fits (shape m))
-    pub kept : well m'
     pub fit : shape m' ≡ shape m
     pub after : pairs m' ≡ pairs m
     pub answer : r ≡ pairs m n
 
   pub record Asks (n : ℕ) (r : Bool) (m' : M) : Type 0 where
-    pub laws : Lawful (pairs m) (fits (shape m))
-    pub kept : well m'
     pub fit : shape m' ≡ shape m
     pub after : pairs m' ≡ pairs m
     pub answer : MatchBool r (fits (shape m) (beside (pairs m) n)) (fits (shape m) (beside (pairs m) n) → ⊥)
 
   pub record Puts (n : ℕ) (v : V) (r : Result (Option V) Denied) (m' : M) : Type 0 where
-    pub laws : Lawful (pairs m) (fits (shape m))
-    pub kept : well m'
     pub fit : shape m' ≡ shape m
     pub answer : Put (pairs m) (fits (shape m)) n v (pairs m') r
 
   pub record Takes (n : ℕ) (r : Option V) (m' : M) : Type 0 where
-    pub laws : Lawful (pairs m) (fits (shape m))
-    pub kept : well m'
     pub fit : shape m' ≡ shape m
     pub after : pairs m' ≡ changed (pairs m) n None
     pub answer : r ≡ pairs m n
 
   pub record Counted (r : ℕ) (m' : M) : Type 0 where
-    pub laws : Lawful (pairs m) (fits (shape m))
-    pub kept : well m'
     pub fit : shape m' ≡ shape m
     pub after : pairs m' ≡ pairs m
     pub answer : Counts (held (pairs m)) r

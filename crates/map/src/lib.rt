@@ -2,7 +2,7 @@
 #![tactic(auto)]
 
 ghost use Rattle.std.specs.Prelude.{ℕ, Bool, Option};
-ghost use Rattle.map.specs.Meaning.{Finds, Asks, Puts, Takes, Counted};
+ghost use Rattle.map.specs.Meaning.{Lawful, Finds, Asks, Puts, Takes, Counted};
 
 mod laws;
 
@@ -15,11 +15,8 @@ pub enum Denied {
     Full,
 }
 
-// A call promises nothing of a map that is not well kept. Find and count take the map by `&mut`, since a map may write down what it is asked.
+// What a map keeps of its area is an invariant of its type, so a call asks nothing. Find and count take the map by `&mut`, since a map may write down what it is asked.
 pub trait Map<L: Label, V> {
-    // Well kept: the area is as the map's own calls leave it.
-    ghost kept: { Self → Type 0 };
-
     // The payload of the label with a number, or none.
     ghost pairs: { Self → ℕ → Option V };
 
@@ -31,21 +28,23 @@ pub trait Map<L: Label, V> {
 
     // The payload of a label.
     fn find(&mut self, label: L) -> Option<V>
-        ensures { kept self.old → Finds kept pairs shape fits self.old (L.Label.number label) result self.new };
+        ensures { Finds pairs shape fits self.old (L.Label.number label) result self.new };
 
     // Whether a put of the label would be taken.
     fn ask(&mut self, label: L) -> bool
-        ensures { kept self.old → Asks kept pairs shape fits self.old (L.Label.number label) result self.new };
+        ensures { Asks pairs shape fits self.old (L.Label.number label) result self.new };
 
     // Gives the label the payload, and answers the payload that it had.
     fn put(&mut self, label: L, payload: V) -> Result<Option<V>, Denied>
-        ensures { kept self.old → Puts kept pairs shape fits self.old (L.Label.number label) payload result self.new };
+        ensures { Puts pairs shape fits self.old (L.Label.number label) payload result self.new };
 
     // Takes the label out, and answers the payload that it had.
     fn take(&mut self, label: L) -> Option<V>
-        ensures { kept self.old → Takes kept pairs shape fits self.old (L.Label.number label) result self.new };
+        ensures { Takes pairs shape fits self.old (L.Label.number label) result self.new };
 
     // The number of labels held.
     fn count(&mut self) -> usize
-        ensures { kept self.old → Counted kept pairs shape fits self.old result self.new };
+        ensures { Counted pairs shape fits self.old result self.new };
+
+    ghost lawful: { (m : Self) → Lawful (pairs m) (fits (shape m)) };
 }

@@ -1,6 +1,6 @@
 // Digests with known values, and labels that are the same or not.
 use checks::{check, check_eq};
-use label::{BlockNumber, Label, NewBlock, OldBlock, StreamLabel, mix};
+use label::{Label, NewBlock, OldBlock, StreamLabel, mix};
 use std::test::*;
 
 const STREAM: StreamLabel = StreamLabel {
@@ -27,8 +27,8 @@ fn mix_of_the_first_state() -> Result<(), Fail> {
 
 #[test]
 fn labels_are_the_same_by_number() -> Result<(), Fail> {
-    let old: OldBlock = BlockNumber::of(7);
-    let new: NewBlock = BlockNumber::of(7);
+    let old = OldBlock::from(7);
+    let new = NewBlock::from(7);
     check(old.same(OldBlock(7)) && !old.same(OldBlock(8)))?;
     check(new.same(NewBlock(7)) && !new.same(NewBlock(6)))?;
     check_eq(STREAM.number(), 33555204)?;

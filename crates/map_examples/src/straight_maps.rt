@@ -36,8 +36,7 @@ const QUIET: Row<StreamLabel, Span> = Row {
 
 #[test]
 fn checked_sizes() -> Result<(), Fail> {
-    let none: [Row<OldBlock, u32>; 0] = [];
-    check_eq(straight::check(&none), Err(Refusal::BadSize))?;
+    check_eq(straight::check(&[BLANK; 0]), Err(Refusal::BadSize))?;
     check_eq(straight::check(&[BLANK; 1]), Ok(()))?;
     check_eq(straight::check(&[BLANK; 256]), Ok(()))?;
     check_eq(straight::check(&[BLANK; 257]), Err(Refusal::BadSize))
@@ -63,9 +62,9 @@ fn one_row() -> Result<(), Fail> {
 fn first_unused_row_is_reused() -> Result<(), Fail> {
     let mut area = [BLANK; 3];
     let mut map = StraightMap::new(&mut area);
-    check_eq(map.put(OldBlock(1), 10), Ok(None))?;
-    check_eq(map.put(OldBlock(2), 20), Ok(None))?;
-    check_eq(map.put(OldBlock(3), 30), Ok(None))?;
+    for n in 1..=3 {
+        check_eq(map.put(OldBlock(n), 10 * n), Ok(None))?;
+    }
     check_eq(map.take(OldBlock(2)), Some(20))?;
     check_eq(map.take(OldBlock(1)), Some(10))?;
     check_eq(map.put(OldBlock(4), 40), Ok(None))?;
@@ -101,25 +100,15 @@ fn spans_by_stream() -> Result<(), Fail> {
         channel: 2,
         session: 1,
     };
-    check_eq(map.put(a, Span { first: 8, count: 2 }), Ok(None))?;
-    check_eq(
-        map.put(
-            b,
-            Span {
-                first: 10,
-                count: 1,
-            },
-        ),
-        Ok(None),
-    )?;
-    check_eq(map.find(a), Some(Span { first: 8, count: 2 }))?;
-    check_eq(
-        map.take(b),
-        Some(Span {
-            first: 10,
-            count: 1,
-        }),
-    )?;
+    let two = Span { first: 8, count: 2 };
+    let one = Span {
+        first: 10,
+        count: 1,
+    };
+    check_eq(map.put(a, two), Ok(None))?;
+    check_eq(map.put(b, one), Ok(None))?;
+    check_eq(map.find(a), Some(two))?;
+    check_eq(map.take(b), Some(one))?;
     check_eq(map.count(), 1)
 }
 
@@ -134,7 +123,7 @@ fn refuses<M: Map<OldBlock, u32>>(map: &mut M) -> Result<(), Fail> {
 
 #[test]
 fn wrong_areas_hold_nothing() -> Result<(), Fail> {
-    let mut none: [Row<OldBlock, u32>; 0] = [];
+    let mut none = [BLANK; 0];
     refuses(&mut StraightMap::new(&mut none))?;
     let mut area = [USED; 257];
     refuses(&mut StraightMap::new(&mut area))?;

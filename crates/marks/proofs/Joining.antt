@@ -1,10 +1,10 @@
 -- A bucket joins the reached list.
-use Rattle.std.proofs.Common.{◌≡◌, ℕ, zero, suc, ◌+◌, ◌<◌, ◌≤◌, Bool, true, false, cond, List, [], ◌∷◌, length, sym, refl, ap, ◌∙◌, subst, ⊎_elim, arith}
+use Rattle.std.proofs.Common.{◌≡◌, ℕ, zero, suc, ◌+◌, ◌<◌, ◌≤◌, Bool, true, false, cond, List, [], ◌∷◌, length, get_or, sym, refl, ap, ◌∙◌, subst, ⊎_elim, arith}
 use Rattle.std.proofs.lemmas.Bool.{cases_eq, cond-false, cond-true, true≢false}
 use Rattle.bucket.specs.Changes.{blank_mark, modify, peek, with_joined, with_mark, with_place}
 use Rattle.bucket.specs.declared.slots.Bucket.{Bucket}
 use Rattle.bucket.specs.declared.slots.Mark.{Mark}
-use Rattle.bucket.proofs.Lists.{length_modify, peek_modify_keep, peek_modify_other, peek_modify_same}
+use Rattle.bucket.proofs.Lists.{length_modify, peek_at, peek_modify_keep, peek_modify_other, peek_modify_same}
 use Rattle.table.specs.Tables.{unmarked}
 use Rattle.marks.specs.Marks.{Listed, Marked, bucket_at, has_joined, joined_count, joined_to, parent_at, slot_at}
 
@@ -15,11 +15,14 @@ module _ {L V : Type 0} where
   unmarked_modify f h (b ∷ ms) zero = ap (λ z. z ∷ unmarked ms) (h b)
   unmarked_modify f h (b ∷ ms) (suc i) = ap (λ z. with_mark blank_mark b ∷ z) (unmarked_modify f h ms i)
 
+  pub joined_read : (ms : List (Bucket L V)) (q : ℕ) (x : Bucket L V) (r : Bool) → q < length ms → r ≡ (get_or ms q x).mark.joined → has_joined ms q ≡ r
+  joined_read ms q x r h e = peek_at (λ b. b.mark.joined) false ms q x h ∙ sym e
+
   -- ---- how many have joined
 
   count_joined : (ms : List (Bucket L V)) (q : ℕ) → q < length ms → has_joined ms q ≡ false → joined_count (modify (with_joined true) ms q) ≡ joined_count ms + 1
   count_joined [] q h e = absurd (omega arith)
-  count_joined (b ∷ ms) zero h e = let k : ◌≡◌ {A = ℕ} (cond b.mark.joined 1 0) 0 = ap {B = ℕ} (λ z. cond z 1 0) e in omega arith
+  count_joined (b ∷ ms) zero h e = let k : b.mark.joined ≡ false = e in rw k (omega arith)
   count_joined (b ∷ ms) (suc q) h e = let r = count_joined ms q (omega arith) e in omega arith
 
   count_placed : (ms : List (Bucket L V)) (n q p s : ℕ) → joined_count (modify (with_place q p s) ms n) ≡ joined_count ms
@@ -84,14 +87,17 @@ module _ {L V : Type 0} where
     pub slot_new : slot_at ms' n ≡ s
     slot_new = peek_modify_same (λ b. b.mark.slot) 0 (with_place q p s) (modify (with_joined true) ms q) n s in_list (λ x. refl)
 
+    old_place : {Y : Type 0} (g : Bucket L V → Y) (e : Y) → ((x : Bucket L V) → g (with_joined true x) ≡ g x) → (j : ℕ) → (j ≡ n → ⊥) → peek g e ms' j ≡ peek g e ms j
+    old_place g e k j h = peek_modify_other g e (with_place q p s) (modify (with_joined true) ms q) n j h ∙ peek_modify_keep g e (with_joined true) ms q j k
+
     pub bucket_old : (j : ℕ) → (j ≡ n → ⊥) → bucket_at ms' j ≡ bucket_at ms j
-    bucket_old j h = peek_modify_other (λ b. b.mark.bucket) 0 (with_place q p s) (modify (with_joined true) ms q) n j h ∙ peek_modify_keep (λ b. b.mark.bucket) 0 (with_joined true) ms q j (λ x. refl)
+    bucket_old = old_place (λ b. b.mark.bucket) 0 (λ x. refl)
 
     pub parent_old : (j : ℕ) → (j ≡ n → ⊥) → parent_at ms' j ≡ parent_at ms j
-    parent_old j h = peek_modify_other (λ b. b.mark.parent) 0 (with_place q p s) (modify (with_joined true) ms q) n j h ∙ peek_modify_keep (λ b. b.mark.parent) 0 (with_joined true) ms q j (λ x. refl)
+    parent_old = old_place (λ b. b.mark.parent) 0 (λ x. refl)
 
     pub slot_old : (j : ℕ) → (j ≡ n → ⊥) → slot_at ms' j ≡ slot_at ms j
-    slot_old j h = peek_modify_other (λ b. b.mark.slot) 0 (with_place q p s) (modify (with_joined true) ms q) n j h ∙ peek_modify_keep (λ b. b.mark.slot) 0 (with_joined true) ms q j (λ x. refl)
+    slot_old = old_place (λ b. b.mark.slot) 0 (λ x. refl)
 
     pub new_unmarked : unmarked ms' ≡ unmarked ms
     new_unmarked = unmarked_modify (with_place q p s) (λ b. refl) (modify (with_joined true) ms q) n ∙ unmarked_modify (with_joined true) (λ b. refl) ms q

@@ -2,7 +2,7 @@
 -- of the marks of a list of n places in `old`, those of the first j places are blank in ms
 use Rattle.std.proofs.Common.{◌≡◌, ℕ, suc, ◌+◌, ◌<◌, ◌≤◌, true, false, List, [], ◌∷◌, length, sym, refl, ap, ◌∙◌, subst, ⊎_elim, arith}
 use Rattle.std.proofs.lemmas.Bool.{cases_Bool, cases_eq, cases_lt, true≢false}
-use Rattle.bucket.specs.Changes.{blank_mark, modify, with_joined, with_mark, with_place}
+use Rattle.bucket.specs.Changes.{blank_mark, modify, peek, with_joined, with_mark, with_place}
 use Rattle.bucket.specs.declared.slots.Bucket.{Bucket}
 use Rattle.bucket.specs.declared.slots.Mark.{Mark}
 use Rattle.bucket.proofs.Lists.{length_modify, peek_modify_keep, peek_modify_other, peek_modify_same}
@@ -21,10 +21,7 @@ pub record Wiped {L V : Type 0} (old ms : List (Bucket L V)) (n j : ℕ) : Type 
 
 mark_blank : (m : Mark) → m.joined ≡ false → m.bucket ≡ 0 → m.parent ≡ 0 → m.slot ≡ 0 → m ≡ blank_mark
 mark_blank m a b c d =
-    ap {B = Mark} (λ z. record { bucket = m.bucket; parent = m.parent; slot = m.slot; joined = z }) a
-    ∙ ap {B = Mark} (λ z. record { bucket = z; parent = m.parent; slot = m.slot; joined = false }) b
-    ∙ ap {B = Mark} (λ z. record { bucket = 0; parent = z; slot = m.slot; joined = false }) c
-    ∙ ap {B = Mark} (λ z. record { bucket = 0; parent = 0; slot = z; joined = false }) d
+    let e : ◌≡◌ {A = Mark} (record { bucket = m.bucket; parent = m.parent; slot = m.slot; joined = m.joined }) blank_mark = cc in e
 
 module _ {L V : Type 0} where
   blank_all : (ms : List (Bucket L V)) → ((i : ℕ) → has_joined ms i ≡ false) → ((i : ℕ) → Blank ms i) → ms ≡ unmarked ms
@@ -32,17 +29,6 @@ module _ {L V : Type 0} where
   blank_all (b ∷ ms) h z =
       ap (λ m. with_mark m b ∷ ms) (mark_blank b.mark (h 0) (z 0).0 (z 0).1 (z 0).2)
       ∙ ap (λ y. with_mark blank_mark b ∷ y) (blank_all ms (λ i. h (suc i)) (λ i. z (suc i)))
-
-  pub wiped_none : (ms : List (Bucket L V)) (n : ℕ) → Wiped ms ms n 0
-  wiped_none ms n =
-      record {
-        long = refl;
-        same = refl;
-        ahead = λ i h. refl;
-        done = λ i h. absurd (omega arith);
-        past = λ m. m.blank;
-        left = λ m i e. let o = m.listed i e in (o.0, omega arith, o.1, o.2);
-      }
 
   module _ (old ms : List (Bucket L V)) (n j : ℕ) (l : Listed old n) (w : Wiped old ms n j) (h : j < n) where
     pub wiped_place : j < length ms
@@ -71,15 +57,14 @@ module _ {L V : Type 0} where
         peek_modify_same (λ x. x.mark.slot) 0 (with_place 0 0 0) ds j 0 j_in (λ x. refl),
       )
 
+      there : {Y : Type 0} (g : Bucket L V → Y) (e : Y) → ((x : Bucket L V) → g (with_joined false x) ≡ g x) → (i : ℕ) → (i ≡ j → ⊥) → peek g e cs i ≡ peek g e ms i
+      there g e k i ne = peek_modify_other g e (with_place 0 0 0) ds j i ne ∙ peek_modify_keep g e (with_joined false) ms b i k
+
       bucket_there : (i : ℕ) → (i ≡ j → ⊥) → bucket_at cs i ≡ bucket_at ms i
-      bucket_there i ne = peek_modify_other (λ x. x.mark.bucket) 0 (with_place 0 0 0) ds j i ne ∙ peek_modify_keep (λ x. x.mark.bucket) 0 (with_joined false) ms b i (λ x. refl)
+      bucket_there = there (λ x. x.mark.bucket) 0 (λ x. refl)
 
       blank_there : (i : ℕ) → (i ≡ j → ⊥) → Blank ms i → Blank cs i
-      blank_there i ne z = (
-        bucket_there i ne ∙ z.0,
-        peek_modify_other (λ x. x.mark.parent) 0 (with_place 0 0 0) ds j i ne ∙ peek_modify_keep (λ x. x.mark.parent) 0 (with_joined false) ms b i (λ x. refl) ∙ z.1,
-        peek_modify_other (λ x. x.mark.slot) 0 (with_place 0 0 0) ds j i ne ∙ peek_modify_keep (λ x. x.mark.slot) 0 (with_joined false) ms b i (λ x. refl) ∙ z.2,
-      )
+      blank_there i ne z = (bucket_there i ne ∙ z.0, there (λ x. x.mark.parent) 0 (λ x. refl) i ne ∙ z.1, there (λ x. x.mark.slot) 0 (λ x. refl) i ne ∙ z.2)
 
       joined_ds : (i : ℕ) → has_joined cs i ≡ has_joined ds i
       joined_ds i = peek_modify_keep (λ x. x.mark.joined) false (with_place 0 0 0) ds j i (λ x. refl)
@@ -96,11 +81,8 @@ module _ {L V : Type 0} where
                 let ib : i ≡ b → ⊥ = λ q. true≢false (sym e ∙ joined_ds i ∙ ap (has_joined ds) q ∙ peek_modify_same (λ x. x.mark.joined) false (with_joined false) ms b false b_in (λ x. refl)) in
                 let o = w.left m i (sym (peek_modify_other (λ x. x.mark.joined) false (with_joined false) ms b i ib) ∙ sym (joined_ds i) ∙ e) in
                 let nj : o.0 ≡ j → ⊥ = λ q. ib (sym o.3 ∙ ap (bucket_at old) q ∙ sym (w.ahead j (omega arith)) ∙ sym eb) in
-                (o.0, later o.0 o.1 nj, o.2, o.3);
+                (o.0, let w = o.1 in omega (arith, nj), o.2, o.3);
           }
-        where
-          later : (t : ℕ) → j ≤ t → (t ≡ j → ⊥) → j + 1 ≤ t
-          later t u v = omega (arith, v)
 
       pub wiped_more : (xs ys : List (Bucket L V)) → xs ≡ ds → ys ≡ modify (with_place 0 0 0) xs j → Wiped old ys n (j + 1)
       wiped_more xs ys ex ey = subst (λ z. Wiped old z n (j + 1)) (sym (ey ∙ ap (λ z. modify (with_place 0 0 0) z j) ex)) wiped_next

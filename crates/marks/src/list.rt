@@ -3,7 +3,7 @@ ghost use Rattle.std.specs.Prelude.{◌≡◌, ◌+◌, ◌<◌, ◌≤◌, leng
 ghost use Rattle.bucket.specs.Changes.{modify, with_joined, with_place};
 ghost use Rattle.marks.specs.Marks.{has_joined, bucket_at, parent_at, slot_at, joined_count, joined_to};
 
-use bucket::{Bucket, Place};
+use bucket::{Bucket, Link, Place};
 use label::Label;
 
 pub fn place_at<L: Label, V: Copy>(buckets: &[Bucket<L, V>], j: usize) -> Place
@@ -23,20 +23,14 @@ pub(crate) fn mark_joined<L: Label, V: Copy>(buckets: &mut [Bucket<L, V>], i: us
     buckets[i].set_joined(joined);
 }
 
-pub(crate) fn mark_place<L: Label, V: Copy>(
-    buckets: &mut [Bucket<L, V>],
-    j: usize,
-    bucket: u16,
-    parent: u16,
-    slot: u8,
-)
+pub(crate) fn mark_place<L: Label, V: Copy>(buckets: &mut [Bucket<L, V>], j: usize, link: Link)
     requires { j < length buckets.old }
-    ensures { buckets.new ≡ modify (with_place bucket parent slot) buckets.old j }
+    ensures { buckets.new ≡ modify (with_place link.bucket link.parent link.slot) buckets.old j }
 {
-    buckets[j].set_place(bucket, parent, slot);
+    buckets[j].set_place(link);
 }
 
-// The place's bucket joins the reached list of `count` places, unless it has; answers how many places there are then.
+// The place's bucket joins the reached list of `count` places, unless it has; answers how many places there are then. The count goes beside the buckets, and what a list is (`Listed`) is a clause: the buckets keep the list in their marks, and are lent on bare at each step.
 pub fn join<L: Label, V: Copy>(buckets: &mut [Bucket<L, V>], count: usize, place: Place) -> usize
     requires room { count ≤ joined_count buckets.old }
     requires within { place.bucket < length buckets.old }
@@ -48,12 +42,11 @@ pub fn join<L: Label, V: Copy>(buckets: &mut [Bucket<L, V>], count: usize, place
         return count;
     }
     mark_joined(buckets, place.bucket, true);
-    mark_place(
-        buckets,
-        count,
-        place.bucket as u16,
-        place.parent as u16,
-        place.slot as u8,
-    );
+    let link = Link {
+        bucket: place.bucket as u16,
+        parent: place.parent as u16,
+        slot: place.slot as u8,
+    };
+    mark_place(buckets, count, link);
     count + 1
 }

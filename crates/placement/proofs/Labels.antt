@@ -1,8 +1,8 @@
 -- The labels of a sound table: each stands once in their list, and they are those that the table pairs with a payload.
-use Rattle.std.proofs.Common.{◌≡◌, ℕ, zero, suc, ◌+◌, ◌*◌, Bool, true, false, cond, ◌&&◌, eqb, List, [], ◌∷◌, length, is_some, Some, None, Option, sym, refl, ap, ◌∙◌, ⊎_elim, arith}
+use Rattle.std.proofs.Common.{◌≡◌, ℕ, zero, suc, ◌+◌, ◌*◌, Bool, false, cond, ◌&&◌, eqb, List, [], ◌∷◌, length, is_some, Some, None, Option, sym, refl, ap, ◌∙◌, ⊎_elim, arith}
 use Rattle.std.proofs.lemmas.Bool.{cond_both}
+use Rattle.std.proofs.lemmas.Bool.Decides.{nat_tests}
 use Rattle.label.specs.declared.Label.{Ghosts}
-use Rattle.label.proofs.Sameness.{eqb_swap}
 use Rattle.map.specs.Meaning.{held}
 use Rattle.map.specs.Sets.{Counts, Distinct, ◌∈◌, member}
 use Rattle.map.proofs.Lists.{clash, in_cons, not_in}
@@ -14,12 +14,12 @@ use Rattle.placement.specs.Fit.{labels, labels_in, slots_of}
 
 module _ {X : Type 0} where
   or_assoc : (a b c : Option X) → or_else (or_else a b) c ≡ or_else a (or_else b c)
-  or_assoc None b c = refl
-  or_assoc (Some x) b c = refl
+  or_assoc a b c = grind arith
 
-  some_or : (c : Bool) (x : X) (o : Option X) → cond c true (is_some o) ≡ is_some (or_else (cond c (Some x) None) o)
-  some_or true x o = refl
-  some_or false x o = refl
+  -- one slot more in front
+  more : (u : Bool) (m n : ℕ) (x : X) (ls : List ℕ) (o : Option X) → member n ls ≡ is_some o
+      → member n (cond u (m ∷ ls) ls) ≡ is_some (or_else (cond (u && eqb m n) (Some x) None) o)
+  more u m n x ls o e = grind (arith, nat_tests)
 
 module _ {L V : Type 0} (kind : Ghosts L) where
   -- ---- slots in a row: what the first that has n pairs with it
@@ -34,16 +34,7 @@ module _ {L V : Type 0} (kind : Ghosts L) where
 
   member_hits : (ss : List (Slot L V)) (n : ℕ) → member n (labels_in kind ss) ≡ is_some (hits ss n)
   member_hits [] n = refl
-  member_hits (s ∷ ss) n = go s.used (member_hits ss n)
-    where
-      go : (u : Bool) → member n (labels_in kind ss) ≡ is_some (hits ss n)
-          → member n (cond u (kind.number s.label ∷ labels_in kind ss) (labels_in kind ss))
-          ≡ is_some (or_else (cond (u && eqb (kind.number s.label) n) (Some s.payload) None) (hits ss n))
-      go true e =
-          ap (λ t. cond t true (member n (labels_in kind ss))) (eqb_swap n (kind.number s.label))
-          ∙ ap (cond (eqb (kind.number s.label) n) true) e
-          ∙ some_or (eqb (kind.number s.label) n) s.payload (hits ss n)
-      go false e = e
+  member_hits (s ∷ ss) n = more s.used (kind.number s.label) n s.payload (labels_in kind ss) (hits ss n) (member_hits ss n)
 
   pub member_labels : (bs : List (Bucket L V)) (n : ℕ) → member n (labels kind bs) ≡ is_some (look kind bs n)
   member_labels bs n = member_hits (slots_of bs) n ∙ ap is_some (sym (look_hits bs n))

@@ -1,21 +1,21 @@
 -- Where each place is given to at most four numbers, a list of numbers is at most four times as long as the list of their places.
-use Rattle.std.proofs.Common.{◌≡◌, ℕ, zero, suc, ◌*◌, ◌<◌, ◌≤◌, Bool, true, false, not, ◌&&◌, eqb, List, [], ◌∷◌, length, filter, refl, ap, ◌∙◌, inl, inr, ⊎_elim, arith}
+use Rattle.std.proofs.Common.{◌≡◌, ℕ, zero, suc, ◌*◌, ◌<◌, ◌≤◌, Bool, true, false, cond, not, ◌&&◌, eqb, List, [], ◌∷◌, length, filter, refl, ap, inl, inr, ⊎_elim, arith}
 use Rattle.std.proofs.lemmas.List.Filters.{length-filter_both}
+use Rattle.std.proofs.lemmas.Bool.Decides.{nat_tests}
 use Rattle.std.proofs.lemmas.Bool.{and_from, cases_eq, cond_both, eqb-false, not-true}
 use Rattle.map.specs.Sets.{AtMost, Distinct, ◌∈◌}
-use Rattle.map.proofs.Lists.{clash, distinct_short, in_cons, in_tail, not_in, skip}
+use Rattle.map.proofs.Lists.{clash, distinct_short, in_cons, not_in, skip}
 
 -- ---- what a filter keeps
 
 module _ (p : ℕ → Bool) where
+  -- one number more in front
+  kept : (y x : ℕ) (ks xs : List ℕ) → (x ∈ ks → (x ∈ xs) × (p x ≡ true)) → x ∈ cond (p y) (y ∷ ks) ks → (x ∈ y ∷ xs) × (p x ≡ true)
+  kept y x ks xs on h = grind (arith, nat_tests)
+
   in_kept : (xs : List ℕ) (x : ℕ) → x ∈ filter p xs → (x ∈ xs) × (p x ≡ true)
   in_kept [] x h = clash false refl h
-  in_kept (y ∷ xs) x h =
-      let later : x ∈ filter p xs → (x ∈ y ∷ xs) × (p x ≡ true) = λ i. let r = in_kept xs x i in (in_tail x y xs r.0, r.1) in
-      cond_both (p y) (y ∷ filter p xs) (filter p xs) (λ r. x ∈ r → (x ∈ y ∷ xs) × (p x ≡ true))
-      (λ t i. ⊎_elim (λ e. ((in_cons x y xs).1 (inl e), ap p e ∙ t)) later ((in_cons x y (filter p xs)).0 i))
-      (λ _. later)
-      h
+  in_kept (y ∷ xs) x h = kept y x (filter p xs) xs (in_kept xs x) h
 
   distinct_kept : (xs : List ℕ) → Distinct xs → Distinct (filter p xs)
   distinct_kept [] d = tt

@@ -1,6 +1,6 @@
 -- What a sound table holds fits, and a search that has used its list up shows that its label does not.
-use Rattle.std.proofs.Common.{◌≡◌, ℕ, ◌*◌, ◌/◌, ◌%◌, ◌<◌, ◌≤◌, Bool, true, false, cond, ◌&&◌, eqb, ◌⊎◌, List, ◌∷◌, length, is_some, Some, None, Option, sym, refl, ap, ◌∙◌, subst, inl, inr, ⊎_elim, arith, MatchOption}
-use Rattle.std.proofs.lemmas.Bool.{and_from, and_parts, eqb-true, false≢true, some_since}
+use Rattle.std.proofs.Common.{◌≡◌, ℕ, ◌*◌, ◌/◌, ◌%◌, ◌<◌, ◌≤◌, Bool, true, false, cond, ◌&&◌, eqb, ◌⊎◌, List, ◌∷◌, length, is_some, Some, None, Option, sym, refl, ◌∙◌, subst, inl, inr, ⊎_elim, arith, MatchOption}
+use Rattle.std.proofs.lemmas.Bool.{and_parts, eqb-true, false≢true, some_since}
 use Rattle.std.proofs.lemmas.Bool.Decides.{nat_tests}
 use Rattle.label.specs.declared.Label.{Ghosts}
 use Rattle.map.specs.Meaning.{Lawful, beside, held}
@@ -29,8 +29,7 @@ module _ {L : Type 0} (kind : Ghosts L) where
     given = fits.given;
     choice = λ n e. fits.choice n (part n e);
     four = λ i. most_part 4 (λ n. s n && eqb (fits.given n) i) (λ n. t n && eqb (fits.given n) i)
-        (λ n e. let r = and_parts (s n) (eqb (fits.given n) i) e in and_from (t n) (eqb (fits.given n) i) (part n r.0) r.1)
-        (fits.four i);
+        (λ n e. let p = part n in grind arith) (fits.four i);
   }
 
 module _ {L V : Type 0} (kind : Ghosts L) (bs : List (Bucket L V)) where
@@ -48,8 +47,9 @@ module _ {L V : Type 0} (kind : Ghosts L) (bs : List (Bucket L V)) where
       → other_at kind bs i k ≡ cond (eqb (first_of kind (length bs) n) i) (second_of kind (length bs) n) (first_of kind (length bs) n)
   other_lies n i k l =
       let x = pick bs i l.0 in
-      peek_read (λ b. other_of kind (length bs) i (slot_of b k)) 0 bs i x.0 l.0 x.1
-      ∙ ap (λ m. cond (eqb (first_of kind (length bs) m) i) (second_of kind (length bs) m) (first_of kind (length bs) m)) (lies_at kind bs n i k x.0 x.1 l).1
+      let read = peek_read (λ b. other_of kind (length bs) i (slot_of b k)) 0 bs i x.0 l.0 x.1 in
+      let label = (lies_at kind bs n i k x.0 x.1 l).1 in
+      cc
 
   lies_number : (i k : ℕ) → i < length bs → k < 4 → used_at bs i k ≡ true → Lies kind bs (number_at i k) i k
   lies_number i k lt few used =
@@ -86,7 +86,7 @@ module _ {L V : Type 0} (kind : Ghosts L) (bs : List (Bucket L V)) where
         let r = and_parts (held (look kind bs) n) (eqb (given_home n) i) e in
         let l = held_lies n r.0 in
         let here = subst (λ j. Lies kind bs n j l.0) (eqb-true (given_home n) i r.1) l.1 in
-        subst (λ z. z ∈ values (number_at i) 4) (number_lies n i l.0 here) (in_values (number_at i) 4 l.0 here.1);
+        rw (number_lies n i l.0 here) at (in_values (number_at i) 4 l.0 here.1);
   }
 
   pub held_fits : Sound kind bs → Fits kind (length bs) (held (look kind bs))
@@ -115,7 +115,7 @@ module _ {L V : Type 0} (kind : Ghosts L) (bs : List (Bucket L V)) (n : ℕ) (t 
   listed = values t.bucket t.count
 
   in_listed : (g m : ℕ) → m < t.count → t.bucket m ≡ g → g ∈ listed
-  in_listed g m l e = subst (λ z. z ∈ listed) e (in_values t.bucket t.count m l)
+  in_listed g m l e = rw (← e) (in_values t.bucket t.count m l)
 
   -- the labels in them, four for each place: the q-th lies in slot q % 4 at place q / 4
   abbrev label_of : ℕ → ℕ
@@ -126,8 +126,7 @@ module _ {L V : Type 0} (kind : Ghosts L) (bs : List (Bucket L V)) (n : ℕ) (t 
 
   label_lies : (y q : ℕ) → q < 4 * t.count → y ≡ label_of q → Lies kind bs y (t.bucket (q / 4)) (q % 4)
   label_lies y q l e =
-      subst (λ z. Lies kind bs z (t.bucket (q / 4)) (q % 4)) (sym e)
-      (lies_number kind bs (t.bucket (q / 4)) (q % 4) (reached.within (q / 4) (omega arith)) (omega arith)
+      rw e (lies_number kind bs (t.bucket (q / 4)) (q % 4) (reached.within (q / 4) (omega arith)) (omega arith)
       (reached.full (q / 4) (q % 4) (omega arith) (omega arith)))
 
   apart : (q r : ℕ) → q < 4 * t.count → r < 4 * t.count → label_of q ≡ label_of r → q ≡ r
@@ -149,8 +148,8 @@ module _ {L V : Type 0} (kind : Ghosts L) (bs : List (Bucket L V)) (n : ℕ) (t 
   cases_all : (P : ℕ → Type 0) → P n → ((q : ℕ) → q < 4 * t.count → P (label_of q)) → (y : ℕ) → y ∈ n ∷ lying → P y
   cases_all P one more y i =
       ⊎_elim
-      (λ e. subst P (sym e) one)
-      (λ j. let r = of_values label_of (4 * t.count) y j in subst P (sym r.2) (more r.0 r.1))
+      (λ e. rw e one)
+      (λ j. let r = of_values label_of (4 * t.count) y j in rw r.2 (more r.0 r.1))
       ((in_cons y n lying).0 i)
 
   all_beside : (y : ℕ) → y ∈ n ∷ lying → beside (look kind bs) n y ≡ true
@@ -165,15 +164,12 @@ module _ {L V : Type 0} (kind : Ghosts L) (bs : List (Bucket L V)) (n : ℕ) (t 
 
   own_listed : Listed n
   own_listed g choice =
-      let some = reached.first.0 in
-      let few = reached.few in
+      let m : (m : ℕ) × (m < t.count) × (t.bucket m ≡ g) =
       ⊎_elim
-      (λ e. in_listed g 0 (omega arith) (reached.first.1 ∙ sym e))
-      (λ e. ⊎_elim
-      (λ one. in_listed g 0 (omega arith) (reached.first.1 ∙ sym (e ∙ one.1)))
-      (λ two. let k = two.0 in in_listed g 1 (omega arith) (two.2 ∙ sym e))
-      reached.second)
-      choice
+      (λ one. (0, omega arith, grind arith))
+      (λ two. ⊎_elim (λ e. (0, omega arith, (cc))) (λ e. (1, omega arith, (cc))) choice)
+      reached.second in
+      in_listed g m.0 m.1 m.2
 
   label_listed : (q : ℕ) → q < 4 * t.count → Listed (label_of q)
   label_listed q l g choice =

@@ -9,44 +9,39 @@ use std::fmt::{Display, Formatter};
 
 #[derive(Clone, Copy, PartialEq, Eq, Debug)]
 pub enum Refusal {
-    BadSize,
-    MapNotEmpty,
-    NumberTooLarge,
-    NumberBusy,
-    NoBlockWaiting,
-    BlockMapFull,
-    NoSuchGrant,
-    StreamAlreadyOpen,
-    StreamNotOpen,
-    StreamAtEnd,
-    BadLength,
-    StreamMapFull,
-    FieldCutShort,
-    UnknownTag,
-    WrongFieldLength,
-    TapeTooLong,
-    AreaTooShort,
+    BadSize = 1,
+    MapNotEmpty = 2,
+    NumberTooLarge = 3,
+    NumberBusy = 4,
+    NoBlockWaiting = 5,
+    BlockMapFull = 6,
+    NoSuchGrant = 7,
+    StreamAlreadyOpen = 8,
+    StreamNotOpen = 9,
+    StreamAtEnd = 10,
+    BadLength = 11,
+    StreamMapFull = 12,
+    FieldCutShort = 13,
+    UnknownTag = 14,
+    WrongFieldLength = 15,
+    TapeTooLong = 16,
+    AreaTooShort = 17,
 }
 
 // The part of the card that a fault on a tape comes from.
 #[derive(Clone, Copy, PartialEq, Eq, Debug)]
 pub enum Layer {
-    Field,
-    Call,
-    Service,
-    Map,
+    Field = 1,
+    Call = 2,
+    Service = 3,
+    Map = 4,
 }
 
 impl Layer {
     pub fn number(self) -> u8
         ensures { result ≡ depth self }
     {
-        match self {
-            Layer::Field => 1,
-            Layer::Call => 2,
-            Layer::Service => 3,
-            Layer::Map => 4,
-        }
+        self as u8
     }
 }
 
@@ -54,25 +49,7 @@ impl Refusal {
     pub fn number(self) -> u8
         ensures { result ≡ code self }
     {
-        match self {
-            Refusal::BadSize => 1,
-            Refusal::MapNotEmpty => 2,
-            Refusal::NumberTooLarge => 3,
-            Refusal::NumberBusy => 4,
-            Refusal::NoBlockWaiting => 5,
-            Refusal::BlockMapFull => 6,
-            Refusal::NoSuchGrant => 7,
-            Refusal::StreamAlreadyOpen => 8,
-            Refusal::StreamNotOpen => 9,
-            Refusal::StreamAtEnd => 10,
-            Refusal::BadLength => 11,
-            Refusal::StreamMapFull => 12,
-            Refusal::FieldCutShort => 13,
-            Refusal::UnknownTag => 14,
-            Refusal::WrongFieldLength => 15,
-            Refusal::TapeTooLong => 16,
-            Refusal::AreaTooShort => 17,
-        }
+        self as u8
     }
 
     pub fn layer(self) -> Layer

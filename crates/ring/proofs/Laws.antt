@@ -1,23 +1,22 @@
 -- Laws of a ring's contents: a value goes in behind the last one, and the front leaves, round the end of the cells.
-use Rattle.std.proofs.Common.{◌≡◌, ℕ, zero, suc, ◌+◌, ◌-◌, ◌<◌, ◌≤◌, min, List, [], ◌∷◌, ◌++◌, length, get_or, take, drop, set, Some, None, sym, refl, ap, ◌∙◌, ⊎_elim, sub-one, arith, length-append, length-drop, length-set, length-take, MutBor}
-use Rattle.std.proofs.lemmas.List.{append-nil, append_assoc, take_more_set, take_all, drop_all, drop_more, drop-set-add, drop-set-lt, nil_from_length}
+use Rattle.std.proofs.Common.{◌≡◌, ℕ, zero, suc, ◌+◌, ◌-◌, ◌<◌, ◌≤◌, min, List, [], ◌∷◌, ◌++◌, length, get_or, take, drop, set, Some, sym, refl, ap, ◌∙◌, ⊎_elim, sub-one, arith, length-append, length-drop, length-set, length-take}
+use Rattle.std.proofs.lemmas.List.{append-nil, append_assoc, take_more_set, take_all, drop_all, drop_more, drop-set-add, drop-set-lt}
 use Rattle.std.proofs.lemmas.Bool.{cases_lt}
 use Rattle.std.proofs.lemmas.Bool.Decides.{nat_tests}
+use Rattle.std.proofs.Math.Nat.{min-eq_left}
+use Rattle.std.proofs.Math.Seq.{take-nil}
+use Rattle.std.proofs.lemmas.Option.{slice_get_within}
 use Rattle.std.specs.List.{slice_get}
 use Rattle.ring.specs.declared.queue.Ring.{Ring}
-use Rattle.ring.specs.Queue.{contents, start, held_in, items, places, around, Full, Pops}
+use Rattle.ring.specs.Queue.{contents, start, held_in, items, places, around, Popped}
 
 -- the first of n values, and the rest
 take_front : {X : Type 0} (n : ℕ) (x : X) (ys : List X) → 0 < n → take n (x ∷ ys) ≡ x ∷ take (n - 1) ys
 take_front zero x ys z = absurd (omega arith)
 take_front (suc n) x ys z = rw sub-one
 
-take_none : {X : Type 0} (n : ℕ) → take {A = X} n [] ≡ []
-take_none zero = refl
-take_none (suc n) = refl
-
 module _ {X : Type 0} (xs : List X) (h n : ℕ) where
-  pub contents_length : h ≤ length xs → n ≤ length xs → length (contents xs h n) ≡ n
+  contents_length : h ≤ length xs → n ≤ length xs → length (contents xs h n) ≡ n
   contents_length a b = simp (length-append, length-take, length-drop) (omega arith)
 
   -- a value more at the back, before the end of the cells
@@ -51,7 +50,7 @@ pop_wrap xs n b =
     let e : length xs + n - length xs ≡ n = omega arith in
     let z : 0 + n - length xs ≡ 0 = omega arith in
     let a : length xs ≤ length xs = omega arith in
-    rw (drop_all, e, z, take_none, append-nil)
+    rw (drop_all, e, z, take-nil, append-nil)
 
 around_low : (h n m : ℕ) → h + n < m → around h n m ≡ h + n
 around_low h n m l = grind (arith, nat_tests)
@@ -75,14 +74,8 @@ start_past h n l = grind (arith, nat_tests)
 start_below : (h n : ℕ) → 0 < n → start h n < n
 start_below h n l = grind (arith, nat_tests)
 
-pub start_within : (h n : ℕ) → start h n ≤ n
+start_within : (h n : ℕ) → start h n ≤ n
 start_within h n = grind (arith, nat_tests)
-
-start_zero : (n : ℕ) → start 0 n ≡ 0
-start_zero n = grind (arith, nat_tests)
-
-least_in : (m n : ℕ) → m ≤ n → min m n ≡ m
-least_in m n l = omega arith
 
 -- the front leaves, and the next cell, or the first after the last, is the front
 popped : {X : Type 0} (xs : List X) (n h : ℕ) (d : X) → n ≤ length xs → 0 < n → h < length xs
@@ -92,12 +85,6 @@ popped xs n h d b z l =
     (⊎_elim (λ p. rw (start_in (h + 1) (length xs) p))
     (λ p. let e : h + 1 ≡ length xs = omega arith in let f : n - 1 ≤ length xs = omega arith in rw (start_past (h + 1) (length xs) p, e) (pop_wrap xs (n - 1) f))
     (cases_lt (h + 1) (length xs)))
-
-contents_all : {X : Type 0} (xs : List X) → contents xs 0 (length xs) ≡ xs
-contents_all xs =
-    let z : 0 + length xs - length xs ≡ 0 = omega arith in
-    let a : length xs ≤ length xs = omega arith in
-    rw (z, append-nil, take_all)
 
 -- the same of a ring, whatever its head h and count n are
 module _ {X : Type 0} (xs : List X) (h n k : ℕ) (e : k ≡ length (held_in xs h n)) where
@@ -110,7 +97,7 @@ module _ {X : Type 0} (xs : List X) (h n k : ℕ) (e : k ≡ length (held_in xs 
       let b : k ≤ length xs = omega arith in
       let p : 0 < k = omega arith in
       let l : at < length xs = rw a (start_below h (length xs) (omega arith)) in
-      rw (c, ← a, least_in (k - 1) (length xs) (omega arith)) (popped xs k at d b p l)
+      rw (c, ← a, min-eq_left {n = k - 1} {m = length xs} (omega arith)) (popped xs k at d b p l)
 
   pub ring_pushes : (at s : ℕ) (v : X) → s ≡ start h (length xs) → k < length xs
       → at ≡ around (start h (length xs)) (length (held_in xs h n)) (length xs)
@@ -119,39 +106,21 @@ module _ {X : Type 0} (xs : List X) (h n k : ℕ) (e : k ≡ length (held_in xs 
       let c = count_is in
       let l : s < length xs = rw a (start_below h (length xs) (omega arith)) in
       let m : s ≤ length xs = omega arith in
-      rw (length-set, c, ← a, start_in s (length xs) l, least_in (k + 1) (length xs) (omega arith)) (rw length-set at (pushed xs s k at m v b (rw (← e, ← a) at w)))
+      rw (length-set, c, ← a, start_in s (length xs) l, min-eq_left {n = k + 1} {m = length xs} (omega arith)) (rw length-set at (pushed xs s k at m v b (rw (← e, ← a) at w)))
 
--- what the contracts say, by their records
+-- the front value leaves
 module _ {X : Type 0} where
-  pub full_of : (c : MutBor (List X)) (t : Ring X) → t ≡ record { cells = c; head = 0; count = length c.now } → Full c t
-  full_of c t q =
-      let n = length c.now in
-      rw q (record { cells = refl; head = refl; count = refl; places = refl; items = rw (start_zero n, least_in n n (omega arith)) (contents_all c.now) })
-
-  pub pops_of : (r : Ring X) (k at : ℕ) (d : X) (t : Ring X) → k ≡ length (items r) → at ≡ start r.head (places r) → (k ≡ 0 → ⊥)
-      → t ≡ record { cells = r.cells; head = at + 1; count = k - 1 } → Pops r (Some (get_or r.cells.now at d)) t
-  pops_of r k at d t e a z q =
-      let p = ring_pops r.cells.now r.head r.count k e at d a z in
-      rw q (record {
-        answer = sym (ap (λ xs. slice_get xs 0) p);
+  pub pops_of : (r : Ring X) (k at : ℕ) (x : X) → k ≡ length (items r) → at ≡ start r.head (places r) → Some x ≡ slice_get (items r) 0
+      → Popped r x (record { cells = r.cells; head = at + 1; count = k - 1 })
+  pops_of r k at x e a front =
+      let some : 0 < length (items r) = slice_get_within (items r) 0 x (sym front) in
+      let p = ring_pops r.cells.now r.head r.count k e at x a (λ z. omega arith) in
+      let same : x ≡ get_or r.cells.now at x = let q : Some x ≡ Some (get_or r.cells.now at x) = front ∙ ap (λ xs. slice_get xs 0) p in cc in
+      record {
+        items = p ∙ ap (λ y. y ∷ held_in r.cells.now (at + 1) (k - 1)) (sym same);
         cells = refl;
         head = ap (λ m. m + 1) a;
         count = ap (λ m. m - 1) e;
         area = refl;
-        same = λ y. let b : ◌≡◌ {A = ℕ} 0 1 = cc in absurd (omega arith);
         places = refl;
-        items = p;
-      })
-
-  pub pops_none : (r : Ring X) → 0 ≡ length (items r) → Pops r None r
-  pops_none r e =
-      record {
-        answer = sym (ap (λ xs. slice_get xs 0) (nil_from_length _ (sym e)));
-        cells = refl;
-        head = refl;
-        count = refl;
-        area = refl;
-        same = λ y. refl;
-        places = refl;
-        items = refl;
       }

@@ -7,13 +7,13 @@
 --   around h n m       the cell n further than h, round the end of m cells
 --   back r             the cell behind the last value of r, round the end
 --   Empty c r, Full c r   a ring made over the lent cells c, holding none or all of them
---   Pushes r x b t     pushing x at r answers b and leaves t
---   Pops r x t         popping at r answers x and leaves t
+--   Pushed r x t       t is r with x behind its last value
+--   Pushes r x a t     pushing x at r answers a and leaves t
+--   Popped r x t       t is r without x, which was at its front
+--   Pops r o t         popping at r answers o and leaves t
 -- Assumes nothing: each holds of every head and count.
-use Rattle.std.specs.Prelude.{◌≡◌, ℕ, ◌+◌, ◌-◌, min, Bool, false, cond, List, [], ◌∷◌, ◌++◌, length, take, drop, is_some, None, Option, nat_lt, slice_set}
+use Rattle.std.specs.Prelude.{◌≡◌, ℕ, ◌+◌, ◌-◌, ◌<◌, ◌≤◌, min, cond, List, [], ◌∷◌, ◌++◌, length, take, drop, Some, None, Ok, Err, Option, Result, nat_lt, slice_set}
 use Rattle.std.specs.Borrow.{MutBor}
-use Rattle.std.specs.Option.{option_to_list}
-use Rattle.std.specs.List.{slice_get}
 use Rattle.ring.specs.declared.queue.Ring.{Ring}
 
 abbrev pub contents : {X : Type 0} → List X → ℕ → ℕ → List X
@@ -37,27 +37,34 @@ around h n m = cond (nat_lt (h + n) m) (h + n) (h + n - m)
 abbrev pub back : {X : Type 0} → Ring X → ℕ
 back r = around (start r.head (places r)) (length (items r)) (places r)
 
--- a refused push leaves the ring as it was
-pub record Pushes {X : Type 0} (r : Ring X) (x : X) (done : Bool) (t : Ring X) : Type 0 where
-  pub answer : done ≡ nat_lt (length (items r)) (places r)
-  pub cells : t.cells.now ≡ cond done (slice_set r.cells.now (back r) x) r.cells.now
-  pub head : t.head ≡ cond done (start r.head (places r)) r.head
-  pub count : t.count ≡ cond done (length (items r) + 1) r.count
+-- x goes in behind the last value
+pub record Pushed {X : Type 0} (r : Ring X) (x : X) (t : Ring X) : Type 0 where
+  pub room : length (items r) < places r
+  pub cells : t.cells.now ≡ slice_set r.cells.now (back r) x
+  pub head : t.head ≡ start r.head (places r)
+  pub count : t.count ≡ length (items r) + 1
   pub area : t.cells.ghost_name ≡ r.cells.ghost_name
-  pub same : done ≡ false → t ≡ r
   pub places : places t ≡ places r
-  pub items : items t ≡ cond done (items r ++ x ∷ []) (items r)
+  pub items : items t ≡ items r ++ x ∷ []
 
--- a pop of an empty ring leaves it as it was; the cells stay as they are
-pub record Pops {X : Type 0} (r : Ring X) (x : Option X) (t : Ring X) : Type 0 where
-  pub answer : x ≡ slice_get (items r) 0
+-- where every cell is taken, x comes back, and the ring is as it was
+abbrev pub Pushes : {X : Type 0} → Ring X → X → Result (Unit {0}) X → Ring X → Type 0
+Pushes r x (Ok u) t = Pushed r x t
+Pushes r x (Err y) t = (y ≡ x) × (places r ≤ length (items r)) × (t ≡ r)
+
+-- x leaves from the front; the cells stay as they are
+pub record Popped {X : Type 0} (r : Ring X) (x : X) (t : Ring X) : Type 0 where
   pub cells : t.cells.now ≡ r.cells.now
-  pub head : t.head ≡ cond (is_some x) (start r.head (places r) + 1) r.head
-  pub count : t.count ≡ cond (is_some x) (length (items r) - 1) r.count
+  pub head : t.head ≡ start r.head (places r) + 1
+  pub count : t.count ≡ length (items r) - 1
   pub area : t.cells.ghost_name ≡ r.cells.ghost_name
-  pub same : x ≡ None → t ≡ r
   pub places : places t ≡ places r
-  pub items : items r ≡ option_to_list x ++ items t
+  pub items : items r ≡ x ∷ items t
+
+-- where none waits, the ring is as it was
+abbrev pub Pops : {X : Type 0} → Ring X → Option X → Ring X → Type 0
+Pops r None t = (items r ≡ []) × (t ≡ r)
+Pops r (Some x) t = Popped r x t
 
 -- an empty ring over the lent cells c
 pub record Empty {X : Type 0} (c : MutBor (List X)) (t : Ring X) : Type 0 where

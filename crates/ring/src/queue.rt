@@ -1,4 +1,4 @@
-// The queue itself: a ring buffer over a lent slice of cells.
+// The queue itself: a ring buffer over a lent slice of cells, since the service has no heap.
 mod cells;
 mod methods;
 

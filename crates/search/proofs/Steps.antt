@@ -1,6 +1,6 @@
 -- What each step of the search reads off the buckets and writes into the marks.
-use Rattle.std.proofs.Common.{◌≡◌, ℕ, ◌+◌, ◌<◌, ◌≤◌, true, false, cond, eqb, List, length, get_or, Some, None, Option, sym, refl, ap, ◌∙◌, subst, ⊎_elim, arith, MatchOption}
-use Rattle.std.proofs.lemmas.Bool.{cases_Bool, cond-false, cond-true, true≢false}
+use Rattle.std.proofs.Common.{◌≡◌, ℕ, ◌+◌, ◌<◌, ◌≤◌, true, false, cond, eqb, List, length, get_or, Some, None, Option, sym, refl, ap, ◌∙◌, ⊎_elim, arith, MatchOption}
+use Rattle.std.proofs.lemmas.Bool.{cases_Bool, cond-false, cond-true}
 use Rattle.label.specs.declared.Label.{Ghosts}
 use Rattle.bucket.specs.Changes.{blank_mark, modify, peek, with_joined, with_place}
 use Rattle.bucket.specs.Slots.{Full, Lowest, slot_of}
@@ -9,7 +9,7 @@ use Rattle.bucket.specs.declared.slots.Bucket.{Bucket}
 use Rattle.bucket.proofs.Changed.{with_mark_slots}
 use Rattle.bucket.proofs.Lists.{peek_read}
 use Rattle.table.specs.Moving.{other_at, other_of, used_at}
-use Rattle.table.specs.Tables.{first_of, second_of, unmarked}
+use Rattle.table.specs.Tables.{unmarked}
 use Rattle.table.proofs.Alike.{length_unmarked, peek_unmarked}
 use Rattle.marks.specs.Marks.{Listed, Marked, bucket_at, has_joined, joined_to}
 use Rattle.marks.proofs.Joining.{bucket_new, bucket_old, join_new, join_old, listed_none, marked_none, new_length, new_listed, new_marked, new_unmarked, none_joined, parent_new, parent_old, slot_new, slot_old}
@@ -30,10 +30,7 @@ module _ {L V : Type 0} where
   module _ (kind : Ghosts L) (bs : List (Bucket L V)) (i k : ℕ) (x : Bucket L V) (l : L) (d p q : ℕ) (lt : i < length bs) (is : x ≡ get_or bs i x) (el : l ≡ (slot_of x k).label) (ed : d ≡ kind.spread (kind.number l)) (ep : p ≡ first d (length bs)) (eq : q ≡ second d (length bs)) where
     pub other_read : other_at kind bs i k ≡ cond (eqb p i) q p
     other_read =
-        peek_read (λ b. other_of kind (length bs) i (slot_of b k)) 0 bs i x lt is
-        ∙ ap (λ z. cond (eqb (first_of kind (length bs) (kind.number z)) i) (second_of kind (length bs) (kind.number z)) (first_of kind (length bs) (kind.number z))) (sym el)
-        ∙ ap (λ z. cond (eqb (first z (length bs)) i) (second z (length bs)) (first z (length bs))) (sym ed)
-        ∙ ap (λ z. cond (eqb z i) (second d (length bs)) z) (sym ep) ∙ ap (λ z. cond (eqb p i) z p) (sym eq)
+        let read = peek_read (λ b. other_of kind (length bs) i (slot_of b k)) 0 bs i x lt is in cc
 
   -- ---- marks are no part of slots
 
@@ -77,43 +74,49 @@ module _ {L V : Type 0} where
       → (has_joined ms q ≡ true → P ms n) → (has_joined ms q ≡ false → P (modify (with_place q a k) (modify (with_joined true) ms q) n) (n + 1)) → P cs m
   by_join ms n q a k cs m ec em P old new =
       ⊎_elim
-      (λ t. subst (P cs) (sym (em ∙ cond-true {A = ℕ} (has_joined ms q) n (n + 1) t)) (subst (λ z. P z n) (sym (ec ∙ join_old ms n q a k t)) (old t)))
-      (λ f. subst (P cs) (sym (em ∙ cond-false {A = ℕ} (has_joined ms q) n (n + 1) f)) (subst (λ z. P z (n + 1)) (sym (ec ∙ join_new ms n q a k f)) (new f)))
+      (λ t. rw (em, cond-true {A = ℕ} (has_joined ms q) n (n + 1) t, ec, join_old ms n q a k t) (old t))
+      (λ f. rw (em, cond-false {A = ℕ} (has_joined ms q) n (n + 1) f, ec, join_new ms n q a k f) (new f))
       (cases_Bool (has_joined ms q))
 
   -- ---- one label followed
 
   module _ (kind : Ghosts L) (ms : List (Bucket L V)) (n head k b q : ℕ) (l : Listed ms n) (here : head < n) (eb : b ≡ bucket_at ms head) (few : k < 4) (lt : q < length ms) (eq : q ≡ other_at kind ms b k) (cs : List (Bucket L V)) (m : ℕ) (ec : cs ≡ joined_to ms n q head k) (em : m ≡ cond (has_joined ms q) n (n + 1)) where
-    pub follow_listed : Listed cs m
-    follow_listed = by_join ms n q head k cs m ec em Listed (λ _. l) (λ f. new_listed ms n q head k l lt f (λ _. here))
+    -- the list stays a list and grows, its bucket at head stays, and its search has followed one label more
+    abbrev pub Followed : List (Bucket L V) → ℕ → Type 0
+    Followed z y =
+        Listed z y × (n ≤ y) × (b ≡ bucket_at z head)
+        × ((bs : List (Bucket L V)) (p s st : ℕ) → Searching kind bs p s ms st n head k → FullAt bs b → Searching kind bs p s z st y head (k + 1))
 
-    pub follow_more : n ≤ m
-    follow_more = by_join ms n q head k cs m ec em (λ _ z. n ≤ z) (λ _. omega arith) (λ _. omega arith)
+    module _ (bs : List (Bucket L V)) (p s st : ℕ) (w : Searching kind bs p s ms st n head k) (full : FullAt bs b) where
+      at_head : other_at kind bs (bucket_at ms head) k ≡ q
+      at_head = let same = same_other ms bs w.same kind b k in cc
 
-    pub follow_bucket : b ≡ bucket_at cs head
-    follow_bucket = by_join ms n q head k cs m ec em (λ z _. b ≡ bucket_at z head) (λ _. eb) (λ f. eb ∙ sym (bucket_old ms n q head k l lt f head (λ e. omega arith)))
+      search_old : has_joined ms q ≡ true → Searching kind bs p s ms st n head (k + 1)
+      search_old t =
+          let o = w.marked.listed q t in
+          record { same = w.same; marked = w.marked; reached = reached_old kind bs p s (trail_of ms st n) head k few here w.reached o.0 o.1 (o.2 ∙ sym at_head) }
 
-    pub follow_search : (bs : List (Bucket L V)) (p s st : ℕ) → Searching kind bs p s ms st n head k → FullAt bs b → Searching kind bs p s cs st m head (k + 1)
-    follow_search bs p s st w full = by_join ms n q head k cs m ec em (λ z y. Searching kind bs p s z st y head (k + 1)) old new
-      where
-        at_head : other_at kind bs (bucket_at ms head) k ≡ q
-        at_head = ap (λ z. other_at kind bs z k) (sym eb) ∙ same_other ms bs w.same kind b k ∙ sym eq
+      search_new : has_joined ms q ≡ false → Searching kind bs p s (modify (with_place q head k) (modify (with_joined true) ms q) n) st (n + 1) head (k + 1)
+      search_new f =
+          record {
+            same = new_unmarked ms n q head k l lt f ∙ w.same;
+            marked = new_marked ms n q head k l lt f w.marked;
+            reached = reached_new kind bs p s (trail_of ms st n) head k few here w.reached (trail_of (modify (with_place q head k) (modify (with_joined true) ms q) n) st (n + 1)) q
+                (extends_new ms n q head k l lt f st) (let long = same_length ms bs w.same in omega arith)
+                (λ j h e. let old = w.marked.joined j h in cc)
+                (ap (λ z. used_at bs z k) (sym eb) ∙ full k) at_head;
+          }
 
-        old : has_joined ms q ≡ true → Searching kind bs p s ms st n head (k + 1)
-        old t =
-            let o = w.marked.listed q t in
-            record { same = w.same; marked = w.marked; reached = reached_old kind bs p s (trail_of ms st n) head k few here w.reached o.0 o.1 (o.2 ∙ sym at_head) }
-
-        new : has_joined ms q ≡ false → Searching kind bs p s (modify (with_place q head k) (modify (with_joined true) ms q) n) st (n + 1) head (k + 1)
-        new f =
-            record {
-              same = new_unmarked ms n q head k l lt f ∙ w.same;
-              marked = new_marked ms n q head k l lt f w.marked;
-              reached = reached_new kind bs p s (trail_of ms st n) head k few here w.reached (trail_of (modify (with_place q head k) (modify (with_joined true) ms q) n) st (n + 1)) q
-                  (extends_new ms n q head k l lt f st) (subst (λ z. q < z) (same_length ms bs w.same) lt)
-                  (λ j h e. true≢false (sym (w.marked.joined j h) ∙ ap (has_joined ms) e ∙ f))
-                  (ap (λ z. used_at bs z k) (sym eb) ∙ full k) at_head;
-            }
+    pub follow : Followed cs m
+    follow =
+        by_join ms n q head k cs m ec em Followed
+        (λ t. (l, omega arith, eb, λ bs p s st w full. search_old bs p s st w full t))
+        (λ f. (
+          new_listed ms n q head k l lt f (λ _. here),
+          omega arith,
+          eb ∙ sym (bucket_old ms n q head k l lt f head (λ e. omega arith)),
+          λ bs p s st w full. search_new bs p s st w full f,
+        ))
 
   -- all labels of the bucket at place head followed: on to the next place, whose predecessor stays where it was
   pub searching_next : (kind : Ghosts L) (bs : List (Bucket L V)) (p s : ℕ) (ms : List (Bucket L V)) (st n head b : ℕ) → b ≡ bucket_at ms head → FullAt bs b → Searching kind bs p s ms st n head 4 → Searching kind bs p s ms st n (head + 1) 0
@@ -131,7 +134,7 @@ module _ {L V : Type 0} where
 
     module _ (m2 : List (Bucket L V)) (n2 : ℕ) (e2 : m2 ≡ joined_to m1 n1 s 0 0) (c2 : n2 ≡ cond (has_joined m1 s) n1 (n1 + 1)) where
       ls1 : s < length m1
-      ls1 = subst (λ z. s < z) (sym first_length) ls
+      ls1 = let long = first_length in omega arith
 
       pub both_listed : Listed m2 n2
       both_listed = by_join m1 n1 s 0 0 m2 n2 e2 c2 Listed (λ _. first_listed) (λ f. new_listed m1 n1 s 0 0 first_listed ls1 f (λ h. h))
@@ -147,20 +150,20 @@ module _ {L V : Type 0} where
         n1_is = c1 ∙ cond-false {A = ℕ} (has_joined ms p) 0 (0 + 1) none
 
         marked_one : Marked m1 1
-        marked_one = subst (λ z. Marked z 1) (sym m1_is) (new_marked ms 0 p 0 0 (listed_none ms) lp none (marked_none ms rest))
+        marked_one = rw m1_is (new_marked ms 0 p 0 0 (listed_none ms) lp none (marked_none ms rest))
 
         same_one : unmarked m1 ≡ ms
         same_one = ap unmarked m1_is ∙ new_unmarked ms 0 p 0 0 (listed_none ms) lp none ∙ rest
 
         bucket_one : bucket_at m1 0 ≡ p
-        bucket_one = ap (λ z. bucket_at z 0) m1_is ∙ bucket_new ms 0 p 0 0 (listed_none ms) lp none
+        bucket_one = rw m1_is (bucket_new ms 0 p 0 0 (listed_none ms) lp none)
 
         listed_one : Listed m1 1
-        listed_one = subst (Listed m1) n1_is first_listed
+        listed_one = rw n1_is at first_listed
 
         pub both_search : Searching kind ms p s m2 n2 n2 0 0
         both_search =
-            by_join m1 1 s 0 0 m2 n2 (e2 ∙ ap (λ z. joined_to m1 z s 0 0) n1_is) (c2 ∙ ap (λ z. cond (has_joined m1 s) z (z + 1)) n1_is)
+            by_join m1 1 s 0 0 m2 n2 (rw n1_is at e2) (rw n1_is at c2)
             (λ z n. Searching kind ms p s z n n 0 0) alone two
           where
             alone : has_joined m1 s ≡ true → Searching kind ms p s m1 1 1 0 0
@@ -168,11 +171,8 @@ module _ {L V : Type 0} where
                 let o = marked_one.listed s t in
                 let w = o.1 in
                 let at : o.0 ≡ 0 = omega arith in
-                record {
-                  same = same_one;
-                  marked = marked_one;
-                  reached = reached_one kind ms p s (trail_of m1 1 1) refl refl bucket_one lp (sym o.2 ∙ ap (bucket_at m1) at ∙ bucket_one);
-                }
+                let b = bucket_one in
+                record { same = same_one; marked = marked_one; reached = reached_one kind ms p s (trail_of m1 1 1) refl refl b lp (cc) }
 
             two : has_joined m1 s ≡ false → Searching kind ms p s (modify (with_place s 0 0) (modify (with_joined true) m1 s) 1) 2 2 0 0
             two f =
@@ -181,5 +181,5 @@ module _ {L V : Type 0} where
                   marked = new_marked m1 1 s 0 0 listed_one ls1 f marked_one;
                   reached = reached_two kind ms p s (trail_of (modify (with_place s 0 0) (modify (with_joined true) m1 s) 1) 2 2) refl refl
                       (bucket_old m1 1 s 0 0 listed_one ls1 f 0 (λ e. omega arith) ∙ bucket_one) (bucket_new m1 1 s 0 0 listed_one ls1 f) lp ls
-                      (λ e. true≢false (sym (marked_one.joined 0 (omega arith)) ∙ ap (has_joined m1) (bucket_one ∙ sym e) ∙ f));
+                      (λ e. let b = bucket_one in let old = marked_one.joined 0 (omega arith) in cc);
                 }

@@ -52,6 +52,7 @@ pub(crate) fn expand<L: Label, V: Copy>(
 {
     let bucket = place_at(buckets, head).bucket;
     let mut n = count;
+    // By number: each turn writes the marks of the buckets, so no borrow of the slots can stay.
     for k in 0..4 {
         let next = other(buckets, bucket, k);
         n = join(

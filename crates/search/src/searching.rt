@@ -38,6 +38,7 @@ fn reach<L: Label, V: Copy>(buckets: &mut [Bucket<L, V>], starts: usize) -> Outc
 {
     let mut head = 0;
     let mut count = starts;
+    // The list lies in the buckets that `expand` writes, and grows on the way: no iterator can hold it.
     while head < count {
         let place = place_at(buckets, head);
         if let Some(slot) = vacancy_at(buckets, place.bucket) {
@@ -54,24 +55,20 @@ fn reach<L: Label, V: Copy>(buckets: &mut [Bucket<L, V>], starts: usize) -> Outc
     }
 }
 
-// The search from the first and the second bucket of a label. In a table at rest its list is the reached list of the rules, which allow only one, and nothing but marks has changed.
-pub fn search<L: Label, V: Copy>(
-    buckets: &mut [Bucket<L, V>],
-    first: usize,
-    second: usize,
-) -> Outcome
+// The search from the two homes of a label, its first and its second bucket. In a table at rest its list is the reached list of the rules, which allow only one, and nothing but marks has changed.
+pub fn search<L: Label, V: Copy>(buckets: &mut [Bucket<L, V>], homes: (usize, usize)) -> Outcome
     requires right { Allowed (length buckets.old) }
-    requires within { (first < length buckets.old) × (second < length buckets.old) }
+    requires within { (homes.0 < length buckets.old) × (homes.1 < length buckets.old) }
     ensures listed { Listed buckets.new result.count }
     ensures end { IfSome result.end (λ e. (e.place < result.count) × (0 < result.starts)) }
-    ensures search { unmarked buckets.old ≡ buckets.old → Ended L.Label buckets.old first second buckets.new result.starts result.count result.end }
+    ensures search { unmarked buckets.old ≡ buckets.old → Ended L.Label buckets.old homes.0 homes.1 buckets.new result.starts result.count result.end }
     ensures one { OneTrail L.Label buckets.old }
 {
     let one = join(
         buckets,
         0,
         Place {
-            bucket: first,
+            bucket: homes.0,
             parent: 0,
             slot: 0,
         },
@@ -80,7 +77,7 @@ pub fn search<L: Label, V: Copy>(
         buckets,
         one,
         Place {
-            bucket: second,
+            bucket: homes.1,
             parent: 0,
             slot: 0,
         },

@@ -25,7 +25,7 @@ use Rattle.blocks.proofs.Passing.{given_out, ends_out}
 use Rattle.blocks.specs.declared.pool.Mark.{Mark}
 use Rattle.tape.specs.declared.calls.Call.{Call as TapeCall}
 use Rattle.tape.specs.declared.calls.Call.TheVariants.{Write, Drop, Spoil, Read, Trim, Tally as CallTally}
-use Rattle.listing.specs.declared.lines.Outcome.{Outcome}
+use Rattle.listing.specs.declared.lines.Reply.{Reply}
 use Rattle.listing.specs.Lines.{Obeys}
 use Rattle.service_examples.specs.Holding.{Held, Ready, Keeps}
 
@@ -132,27 +132,27 @@ module _ {L B S : Type 0} (bm : Ghosts B L Entry) (sm : Ghosts S StreamLabel Pos
           keeps_end v m x (block (Some x)) (limits_of bm sm t) q u n b (another (limits_of bm sm t) r q (pass m x) m n b first out) second (keeps_begin m (granted (pass m x)) (limits_of bm sm t) r q n b first out),
     )
 
-    pub passes_keep : (v : Ending) (m : ℕ) (r : Result ℕ Refusal) → Through bm sm s v m r t → (bm.kept s.entries → Passes bm sm s v m r t) → Faulty bm sm s (finished r) t → Keeps bm sm s t
+    pub passes_keep : (v : Ending) (m : ℕ) (r : Result ℕ Refusal) → Through bm sm s v m r t → Passes bm sm s v m r t → Faulty bm sm s (finished r) t → Keeps bm sm s t
     passes_keep v m r step leaves faulty = record {
       faulty = still_faulty (finished r) faulty;
-      lives = λ h lived. two v m r (passes_fixed bm sm s t v m r (leaves lived.blocks_kept)) h (step h lived);
+      lives = λ h lived. two v m r (passes_fixed bm sm s t v m r leaves) h (step h lived);
     }
 
-    pub obeys_keep : (c : TapeCall) (o : Outcome) → Obeys bm sm s c o t → Keeps bm sm s t
+    pub obeys_keep : (c : TapeCall) (o : Result Reply Refusal) → Obeys bm sm s c o t → Keeps bm sm s t
     obeys_keep (Write n) o p = passes_keep Commit n p.answer p.step p.leaves p.faulty
     obeys_keep (Drop n) o p = passes_keep Abandon n p.answer p.step p.leaves p.faulty
     obeys_keep (Spoil n) o p = passes_keep Condemn n p.answer p.step p.leaves p.faulty
     obeys_keep (Read n) o p = record {
       faulty = still_faulty _ p.faulty;
-      lives = λ h lived. one (read n) _ (keeps_read n _) (reads_fixed bm sm s t n p.answer (p.leaves lived.blocks_kept)) h (p.step h lived);
+      lives = λ h lived. one (read n) _ (keeps_read n _) (reads_fixed bm sm s t n p.answer p.leaves) h (p.step h lived);
     }
     obeys_keep (Trim n) o p = record {
       faulty = still_faulty _ p.faulty;
-      lives = λ h lived. one (trim n) _ (keeps_trim n _) (trims_fixed bm sm s t n p.answer (p.leaves lived.blocks_kept)) h (p.step h lived);
+      lives = λ h lived. one (trim n) _ (keeps_trim n _) (trims_fixed bm sm s t n p.answer p.leaves) h (p.step h lived);
     }
     obeys_keep CallTally o p = record {
       faulty = still_faulty _ p.faulty;
-      lives = λ h lived. one tally _ (keeps_tally _) (subst (Fixed bm sm s) (sym p.same) (fixed_none bm sm s)) h (p.step h lived);
+      lives = λ h lived. one tally _ (keeps_tally _) (subst (Fixed bm sm s) (sym p.leaves) (fixed_none bm sm s)) h (p.step h lived);
     }
 
 -- ---- a grant in hand
@@ -162,22 +162,22 @@ module _ {L B S : Type 0} (bm : Ghosts B L Entry) (sm : Ghosts S StreamLabel Pos
   given k h g n e r (q, run, step) = given_out k q r g.number g.block (subst (λ x. Step k q (begin x) (granted (plain g)) r) (sym e) step)
 
   held_ends : (m t : Blocks L B S) (j : History) (v : Ending) (n b : ℕ) (e : Refusal) → Lived bm sm j m → Held (limits_of bm sm m) j n b
-      → Goes bm sm m (end_call v (pass n b)) (refused e) t → (bm.kept m.entries → Ends bm sm m v n b (Err e) t) → ⊥
+      → Goes bm sm m (end_call v (pass n b)) (refused e) t → Ends bm sm m v n b (Err e) t → ⊥
   held_ends m t j v n b e lived held goes leaves =
       let run = (goes j lived).run in
-      let fixed = ends_fixed bm sm m t v n b (Err e) (leaves lived.blocks_kept) in
+      let fixed = ends_fixed bm sm m t v n b (Err e) leaves in
       true≢false (sym (ap accepted (ends_out (limits_of bm sm t) run.0 (standing bm sm t) v n b (refused e) (held run.0 (run_back bm sm m t j run.0 fixed run.1)) run.2)))
 
   -- a grant of s, held over to u, is not refused its ending
   pub not_refused : (s m u t : Blocks L B S) (n : ℕ) (g : Pass) (v : Ending) (e : Refusal) → Ready bm sm s
-      → Goes bm sm s (begin n) (begun (Ok g)) m → (bm.kept s.entries → Begins bm sm s n (Ok g) m) → Faulty bm sm s (begun (Ok g)) m
+      → Goes bm sm s (begin n) (begun (Ok g)) m → Begins bm sm s n (Ok g) m → Faulty bm sm s (begun (Ok g)) m
       → Keeps bm sm m u
-      → Goes bm sm u (end_call v (plain g)) (refused e) t → (bm.kept u.entries → Ends bm sm u v g.number g.block (Err e) t) → ⊥
+      → Goes bm sm u (end_call v (plain g)) (refused e) t → Ends bm sm u v g.number g.block (Err e) t → ⊥
   not_refused s m u t n g v e (inl (x, f)) step leaves faulty keeps goes after = true≢false (ap accepted (faulty x f).0)
   not_refused s m u t n g v e (inr (h, lived)) step leaves faulty keeps goes after =
       let mid = step h lived in
       let x = keeps.lives ((begin n, granted (plain g)) ∷ h) mid in
-      held_ends u t x.0 v g.number g.block e x.1 (x.2 g.number g.block (given (limits_of bm sm m) h g n (leaves lived.blocks_kept).0)) goes after
+      held_ends u t x.0 v g.number g.block e x.1 (x.2 g.number g.block (given (limits_of bm sm m) h g n leaves.0)) goes after
 
   pub ready_begun : (s m : Blocks L B S) (n : ℕ) (g : Pass) → Ready bm sm s → Goes bm sm s (begin n) (begun (Ok g)) m → Faulty bm sm s (begun (Ok g)) m → Ready bm sm m
   ready_begun s m n g (inl (x, f)) step faulty = absurd (true≢false (ap accepted (faulty x f).0))
@@ -193,21 +193,21 @@ module _ {L B S : Type 0} (bm : Ghosts B L Entry) (sm : Ghosts S StreamLabel Pos
       let x = keeps.lives ((begin n, granted (plain g)) ∷ h) (step h lived) in
       inr (_, goes x.0 x.1)
 
-  pub begin_keeps : (s t : Blocks L B S) (n : ℕ) (e : Refusal) → Goes bm sm s (begin n) (refused e) t → (bm.kept s.entries → Begins bm sm s n (Err e) t) → Faulty bm sm s (refused e) t → Keeps bm sm s t
+  pub begin_keeps : (s t : Blocks L B S) (n : ℕ) (e : Refusal) → Goes bm sm s (begin n) (refused e) t → Begins bm sm s n (Err e) t → Faulty bm sm s (refused e) t → Keeps bm sm s t
   begin_keeps s t n e step leaves faulty = record {
     faulty = still_faulty bm sm s t (refused e) faulty;
-    lives = λ h lived. one bm sm s t (begin n) (refused e) (keeps_begin n (refused e)) (gives_fixed bm sm s t n (Err e) (leaves lived.blocks_kept)) h (step h lived);
+    lives = λ h lived. one bm sm s t (begin n) (refused e) (keeps_begin n (refused e)) (gives_fixed bm sm s t n (Err e) leaves) h (step h lived);
   }
 
   pub ended_keeps : (s m t : Blocks L B S) (n x : ℕ) (g : Pass) (v : Ending)
-      → Goes bm sm s (begin n) (begun (Ok g)) m → (bm.kept s.entries → Begins bm sm s n (Ok g) m) → Faulty bm sm s (begun (Ok g)) m
-      → Goes bm sm m (end_call v (plain g)) (ended (Ok x)) t → (bm.kept m.entries → Finishes bm sm m v g (Ok x) t) → Keeps bm sm s t
+      → Goes bm sm s (begin n) (begun (Ok g)) m → Begins bm sm s n (Ok g) m → Faulty bm sm s (begun (Ok g)) m
+      → Goes bm sm m (end_call v (plain g)) (ended (Ok x)) t → Finishes bm sm m v g (Ok x) t → Keeps bm sm s t
   ended_keeps s m t n x g v step leaves faulty goes after = record {
     faulty = λ e f. absurd (true≢false (ap accepted (faulty e f).0));
     lives = λ h lived.
-        let begins = leaves lived.blocks_kept in
+        let begins = leaves in
         let mid = step h lived in
-        let fixed = fixed_more bm sm s m t (gives_fixed bm sm s m n (Ok g.block) begins.2) (ends_fixed bm sm m t v g.number g.block (Ok x) (after mid.blocks_kept)) in (
+        let fixed = fixed_more bm sm s m t (gives_fixed bm sm s m n (Ok g.block) begins.2) (ends_fixed bm sm m t v g.number g.block (Ok x) after) in (
           (end_call v (plain g), block (Some x)) ∷ ((begin n, granted (plain g)) ∷ h),
           goes _ mid,
           λ k b held u (q, (r, run, first), second).

@@ -1,4 +1,5 @@
 // Services that are asked rows of calls, with a grant in hand or without. No grant is let go: each helper ends its own.
+// `Ready` is a clause and no invariant: the service is a type of another crate, and one in the midst of a call is not ready.
 ghost use Rattle.blocks.specs.Service.{Goes, Faulty, Finishes, Back, end_call, ended, plain};
 ghost use Rattle.service_examples.specs.Holding.{Ready, Keeps};
 
@@ -6,40 +7,31 @@ use blocks::{Blocks, Grant, Mark, check as check_sizes};
 use checks::{check_eq, check_row};
 use entry::Ending;
 use label::{BlockNumber, OldBlock, StreamLabel};
-use listing::{Outcome, obey};
+use listing::{Reply, obey};
 use map::Map;
 use refusal::Refusal;
-use rules::{Entry, Position};
+use rules::{Entry, Position, Tally};
 use std::test::*;
 use straight::{Row, StraightMap};
 use tape::Call;
 
-#[derive(Clone, Copy)]
+// A call of a tape, or a begin and, where it is granted, at once its ending.
+#[derive(Clone, Copy, PartialEq, Eq, Debug)]
 pub enum Ask {
     Begin(u32, Ending),
-    Write(u32),
-    Drop(u32),
-    Spoil(u32),
-    Read(u32),
-    Trim(u32),
-    Tally,
+    Call(Call),
 }
 
-#[derive(Clone, Copy, PartialEq, Eq, Debug)]
-pub enum Answer {
-    Block(u32),
-    Nothing,
-    Counts(usize, usize, usize, usize),
-    Refused(u8),
-}
+// What a service answers, a refusal by its number: the number is what is promised.
+pub type Told = Result<Reply, u8>;
 
-fn told(outcome: Outcome) -> Answer {
-    match outcome {
-        Outcome::Block(block) => Answer::Block(block),
-        Outcome::Nothing => Answer::Nothing,
-        Outcome::Counts(t) => Answer::Counts(t.waiting, t.out, t.settled, t.condemned),
-        Outcome::Fault(refusal) => Answer::Refused(refusal.number()),
-    }
+pub(crate) fn counts(waiting: usize, out: usize, settled: usize, condemned: usize) -> Told {
+    Ok(Reply::Counts(Tally {
+        waiting,
+        out,
+        settled,
+        condemned,
+    }))
 }
 
 pub const BLANK: Row<OldBlock, Entry> = Row {
@@ -63,26 +55,24 @@ pub(crate) fn make<'a, L: BlockNumber, B: Map<L, Entry>, S: Map<StreamLabel, Pos
     limit: u32,
     cells: &'a mut [u32],
     marks: &'a mut [Mark],
-    entries: B,
-    streams: S,
+    mut entries: B,
+    mut streams: S,
 ) -> Blocks<'a, L, B, S>
-    requires { (B.Map.kept entries) × (S.Map.kept streams) }
     ensures { Ready B.Map S.Map result }
 {
-    let mut entries = entries;
-    let mut streams = streams;
     // What it answers tells whether the service is fresh or refuses everything.
     let _ = check_sizes::<L, B, S>(limit, cells, marks, &mut entries, &mut streams);
     Blocks::new(limit, cells, marks, entries, streams)
 }
 
+// By the ending as data, so that tables of asks can hold it.
 fn finish<'a, L: BlockNumber, B: Map<L, Entry>, S: Map<StreamLabel, Position>>(
     service: &mut Blocks<'a, L, B, S>,
     grant: Grant,
     ending: Ending,
 ) -> Result<u32, (Refusal, Grant)>
     ensures step { Goes B.Map S.Map service.old (end_call ending (plain grant)) (ended result) service.new }
-    ensures leaves { B.Map.kept service.old.entries → Finishes B.Map S.Map service.old ending grant result service.new }
+    ensures leaves { Finishes B.Map S.Map service.old ending grant result service.new }
     ensures faulty { Faulty B.Map S.Map service.old (ended result) service.new }
     ensures back { Back grant result }
 {
@@ -98,48 +88,40 @@ pub(crate) fn touch<'a, L: BlockNumber, B: Map<L, Entry>, S: Map<StreamLabel, Po
     service: &mut Blocks<'a, L, B, S>,
     n: u32,
     ending: Ending,
-) -> Answer
+) -> Result<Reply, Refusal>
     requires { Ready B.Map S.Map service.old }
     ensures { Keeps B.Map S.Map service.old service.new }
 {
-    match service.begin(n) {
-        Ok(grant) => match finish(service, grant, ending) {
-            Ok(block) => Answer::Block(block),
-            Err((refusal, _grant)) => Answer::Refused(refusal.number()),
-        },
-        Err(refusal) => Answer::Refused(refusal.number()),
+    let grant = service.begin(n)?;
+    // A match, since a closure could not let a grant go.
+    match finish(service, grant, ending) {
+        Ok(block) => Ok(Reply::Block(block)),
+        Err((refusal, _grant)) => Err(refusal),
     }
 }
 
 fn probe<'a, L: BlockNumber, B: Map<L, Entry>, S: Map<StreamLabel, Position>>(
     service: &mut Blocks<'a, L, B, S>,
     ask: Ask,
-) -> Answer
+) -> Told
     requires { Ready B.Map S.Map service.old }
     ensures { Keeps B.Map S.Map service.old service.new }
 {
-    let call = match ask {
-        Ask::Begin(n, ending) => return touch(service, n, ending),
-        Ask::Write(n) => Call::Write(n),
-        Ask::Drop(n) => Call::Drop(n),
-        Ask::Spoil(n) => Call::Spoil(n),
-        Ask::Read(n) => Call::Read(n),
-        Ask::Trim(n) => Call::Trim(n),
-        Ask::Tally => Call::Tally,
-    };
-    told(obey(service, call))
+    match ask {
+        Ask::Begin(n, ending) => touch(service, n, ending).map_err(Refusal::number),
+        Ask::Call(call) => obey(service, call).map_err(Refusal::number),
+    }
 }
 
 // Each ask has its answer.
 fn probes<'a, L: BlockNumber, B: Map<L, Entry>, S: Map<StreamLabel, Position>>(
     service: &mut Blocks<'a, L, B, S>,
-    rows: &[(Ask, Answer)],
+    rows: &[(Ask, Told)],
 ) -> Result<(), Fail>
     requires { Ready B.Map S.Map service.old }
     ensures { Keeps B.Map S.Map service.old service.new }
 {
-    for i in 0..rows.len() {
-        let (ask, answer) = rows[i];
+    for (i, &(ask, answer)) in rows.iter().enumerate() {
         check_row(i, probe(service, ask), answer)?;
     }
     Ok(())
@@ -148,7 +130,7 @@ fn probes<'a, L: BlockNumber, B: Map<L, Entry>, S: Map<StreamLabel, Position>>(
 // The same, and the service may be asked on.
 pub(crate) fn says<'a, L: BlockNumber, B: Map<L, Entry>, S: Map<StreamLabel, Position>>(
     service: &mut Blocks<'a, L, B, S>,
-    rows: &[(Ask, Answer)],
+    rows: &[(Ask, Told)],
 ) -> Result<(), Fail>
     requires { Ready B.Map S.Map service.old }
     ensures { Ready B.Map S.Map service.new }
@@ -170,22 +152,18 @@ pub(crate) fn out<'a, L: BlockNumber, B: Map<L, Entry>, S: Map<StreamLabel, Posi
     service: &mut Blocks<'a, L, B, S>,
     n: u32,
     block: u32,
-    rows: &[(Ask, Answer)],
+    rows: &[(Ask, Told)],
     ending: Ending,
 ) -> Result<(), Fail>
     requires { Ready B.Map S.Map service.old }
     ensures { Ready B.Map S.Map service.new }
 {
-    match service.begin(n) {
-        Ok(grant) => {
-            let given = (grant.number(), grant.block());
-            let all = probes(service, rows);
-            match finish(service, grant, ending) {
-                Ok(ended) => agree(all, (given, ended), ((n, block), block)),
-                Err((_, _grant)) => all,
-            }
-        }
-        Err(refusal) => Err(Fail::new(refusal)),
+    let grant = service.begin(n)?;
+    let given = (grant.number(), grant.block());
+    let all = probes(service, rows);
+    match finish(service, grant, ending) {
+        Ok(ended) => agree(all, (given, ended), ((n, block), block)),
+        Err((_, _grant)) => all,
     }
 }
 
@@ -200,25 +178,22 @@ fn foreign<'a, 'b, L: BlockNumber, B: Map<L, Entry>, S: Map<StreamLabel, Positio
     requires { Ready B.Map S.Map own.old }
     ensures { Ready B.Map S.Map own.new }
 {
-    match own.begin(n) {
-        Ok(grant) => {
-            let given = (grant.number(), grant.block());
-            match finish(other, grant, ending) {
-                Ok(_) => Err(Fail::new("a foreign grant was ended")),
-                Err((refusal, same)) => {
-                    let back = (same.number(), same.block());
-                    match finish(own, same, Ending::Abandon) {
-                        Ok(_block) => agree(
-                            Ok(()),
-                            (back, u32::from(refusal.number())),
-                            (given, u32::from(number)),
-                        ),
-                        Err((why, _same)) => Err(Fail::new(why)),
-                    }
-                }
+    let grant = own.begin(n)?;
+    let given = (grant.number(), grant.block());
+    // Matches, since each arm moves a grant on.
+    match finish(other, grant, ending) {
+        Ok(_) => Err(Fail::new("a foreign grant was ended")),
+        Err((refusal, same)) => {
+            let back = (same.number(), same.block());
+            match finish(own, same, Ending::Abandon) {
+                Ok(_block) => agree(
+                    Ok(()),
+                    (back, u32::from(refusal.number())),
+                    (given, u32::from(number)),
+                ),
+                Err((why, _same)) => Err(Fail::new(why)),
             }
         }
-        Err(refusal) => Err(Fail::new(refusal)),
     }
 }
 
@@ -227,34 +202,36 @@ pub(crate) fn foreign_each<'a, 'b, L: BlockNumber, B: Map<L, Entry>, S: Map<Stre
     own: &mut Blocks<'a, L, B, S>,
     other: &mut Blocks<'b, L, B, S>,
     number: u8,
-    tally: Answer,
+    tally: Told,
 ) -> Result<(), Fail>
     requires { Ready B.Map S.Map own.old }
 {
     foreign(own, other, 7, Ending::Commit, number)?;
     foreign(own, other, 7, Ending::Abandon, number)?;
     foreign(own, other, 7, Ending::Condemn, number)?;
-    check_eq(told(obey(other, Call::Tally)), tally)?;
-    says(own, &[(Ask::Tally, Answer::Counts(1, 0, 0, 0))])
+    check_eq(obey(other, Call::Tally).map_err(Refusal::number), tally)?;
+    says(own, &[(Ask::Call(Call::Tally), counts(1, 0, 0, 0))])
 }
 
-// A fresh service answers the rows.
+// The bound of the block numbers.
+const LIMIT: u32 = 16;
+
+// A fresh service answers the rows. The areas are the caller's slices: an array of a size left open may be too large to lend.
 pub(crate) fn runs(
-    limit: u32,
     cells: &mut [u32],
     marks: &mut [Mark],
     entry_rows: &mut [Row<OldBlock, Entry>],
-    rows: &[(Ask, Answer)],
+    rows: &[(Ask, Told)],
 ) -> Result<(), Fail> {
     let mut stream_rows = [QUIET; 1];
     let entries = StraightMap::new(entry_rows);
     let streams = StraightMap::new(&mut stream_rows);
-    let mut service = make::<OldBlock, _, _>(limit, cells, marks, entries, streams);
+    let mut service = make::<OldBlock, _, _>(LIMIT, cells, marks, entries, streams);
     says(&mut service, rows)
 }
 
 // A grant that a service is to give, and how it is to end.
-#[derive(Clone, Copy)]
+#[derive(Clone, Copy, PartialEq, Eq, Debug)]
 pub struct Change {
     pub number: u32,
     pub block: u32,
@@ -263,19 +240,18 @@ pub struct Change {
 
 // A fresh service answers the rows before a grant, while it is out, and after its ending.
 pub(crate) fn runs_out(
-    limit: u32,
     cells: &mut [u32],
     marks: &mut [Mark],
     entry_rows: &mut [Row<OldBlock, Entry>],
-    before: &[(Ask, Answer)],
+    before: &[(Ask, Told)],
     change: Change,
-    meanwhile: &[(Ask, Answer)],
-    after: &[(Ask, Answer)],
+    meanwhile: &[(Ask, Told)],
+    after: &[(Ask, Told)],
 ) -> Result<(), Fail> {
     let mut stream_rows = [QUIET; 1];
     let entries = StraightMap::new(entry_rows);
     let streams = StraightMap::new(&mut stream_rows);
-    let mut service = make::<OldBlock, _, _>(limit, cells, marks, entries, streams);
+    let mut service = make::<OldBlock, _, _>(LIMIT, cells, marks, entries, streams);
     says(&mut service, before)?;
     out(
         &mut service,
@@ -296,28 +272,24 @@ pub(crate) fn refuses<
     limit: u32,
     cells: &mut [u32],
     marks: &mut [Mark],
-    entries: B,
-    streams: S,
+    mut entries: B,
+    mut streams: S,
     refusal: Refusal,
-) -> Result<(), Fail>
-    requires { (B.Map.kept entries) × (S.Map.kept streams) }
-{
-    let mut entries = entries;
-    let mut streams = streams;
+) -> Result<(), Fail> {
     let verdict = check_sizes::<L, B, S>(limit, cells, marks, &mut entries, &mut streams);
     check_eq(verdict, Err(refusal))?;
-    let answer = Answer::Refused(refusal.number());
+    let answer = Err(refusal.number());
     let mut service = make::<L, B, S>(limit, cells, marks, entries, streams);
     says(
         &mut service,
         &[
             (Ask::Begin(0, Ending::Commit), answer),
-            (Ask::Write(0), answer),
-            (Ask::Drop(0), answer),
-            (Ask::Spoil(0), answer),
-            (Ask::Read(0), answer),
-            (Ask::Trim(0), answer),
-            (Ask::Tally, answer),
+            (Ask::Call(Call::Write(0)), answer),
+            (Ask::Call(Call::Drop(0)), answer),
+            (Ask::Call(Call::Spoil(0)), answer),
+            (Ask::Call(Call::Read(0)), answer),
+            (Ask::Call(Call::Trim(0)), answer),
+            (Ask::Call(Call::Tally), answer),
         ],
     )
 }

@@ -1,22 +1,23 @@
 // Blocks that go out and come back.
-use crate::card::{Answer, Ask, BLANK, Change, runs, runs_out};
+use crate::card::{Ask, BLANK, Change, counts, runs, runs_out};
 use blocks::Mark;
 use entry::Ending;
+use listing::Reply;
 use std::test::*;
+use tape::Call;
 
 #[test]
 fn a_number_at_the_bound() -> Result<(), Fail> {
     runs(
-        16,
         &mut [9; 1],
         &mut [Mark::Condemned; 1],
         &mut [BLANK; 1],
         &[
-            (Ask::Begin(16, Ending::Commit), Answer::Refused(3)),
-            (Ask::Begin(u32::MAX, Ending::Commit), Answer::Refused(3)),
-            (Ask::Read(16), Answer::Refused(3)),
-            (Ask::Trim(16), Answer::Refused(3)),
-            (Ask::Begin(15, Ending::Commit), Answer::Block(0)),
+            (Ask::Begin(16, Ending::Commit), Err(3)),
+            (Ask::Begin(u32::MAX, Ending::Commit), Err(3)),
+            (Ask::Call(Call::Read(16)), Err(3)),
+            (Ask::Call(Call::Trim(16)), Err(3)),
+            (Ask::Begin(15, Ending::Commit), Ok(Reply::Block(0))),
         ],
     )
 }
@@ -24,25 +25,24 @@ fn a_number_at_the_bound() -> Result<(), Fail> {
 #[test]
 fn a_change_keeps_the_old_block() -> Result<(), Fail> {
     runs_out(
-        16,
         &mut [9; 2],
         &mut [Mark::Condemned; 2],
         &mut [BLANK; 2],
-        &[(Ask::Begin(7, Ending::Commit), Answer::Block(0))],
+        &[(Ask::Begin(7, Ending::Commit), Ok(Reply::Block(0)))],
         Change {
             number: 7,
             block: 1,
             ending: Ending::Commit,
         },
         &[
-            (Ask::Read(7), Answer::Block(0)),
-            (Ask::Begin(7, Ending::Abandon), Answer::Refused(4)),
-            (Ask::Trim(7), Answer::Refused(4)),
-            (Ask::Tally, Answer::Counts(0, 1, 1, 0)),
+            (Ask::Call(Call::Read(7)), Ok(Reply::Block(0))),
+            (Ask::Begin(7, Ending::Abandon), Err(4)),
+            (Ask::Call(Call::Trim(7)), Err(4)),
+            (Ask::Call(Call::Tally), counts(0, 1, 1, 0)),
         ],
         &[
-            (Ask::Read(7), Answer::Block(1)),
-            (Ask::Tally, Answer::Counts(1, 0, 1, 0)),
+            (Ask::Call(Call::Read(7)), Ok(Reply::Block(1))),
+            (Ask::Call(Call::Tally), counts(1, 0, 1, 0)),
         ],
     )
 }
@@ -51,7 +51,6 @@ fn a_change_keeps_the_old_block() -> Result<(), Fail> {
 #[test]
 fn busy_before_no_block() -> Result<(), Fail> {
     runs_out(
-        16,
         &mut [9; 1],
         &mut [Mark::Condemned; 1],
         &mut [BLANK; 1],
@@ -62,14 +61,14 @@ fn busy_before_no_block() -> Result<(), Fail> {
             ending: Ending::Condemn,
         },
         &[
-            (Ask::Read(7), Answer::Nothing),
-            (Ask::Begin(16, Ending::Abandon), Answer::Refused(3)),
-            (Ask::Begin(7, Ending::Abandon), Answer::Refused(4)),
-            (Ask::Begin(8, Ending::Abandon), Answer::Refused(5)),
+            (Ask::Call(Call::Read(7)), Ok(Reply::Nothing)),
+            (Ask::Begin(16, Ending::Abandon), Err(3)),
+            (Ask::Begin(7, Ending::Abandon), Err(4)),
+            (Ask::Begin(8, Ending::Abandon), Err(5)),
         ],
         &[
-            (Ask::Begin(7, Ending::Abandon), Answer::Refused(5)),
-            (Ask::Tally, Answer::Counts(0, 0, 0, 1)),
+            (Ask::Begin(7, Ending::Abandon), Err(5)),
+            (Ask::Call(Call::Tally), counts(0, 0, 0, 1)),
         ],
     )
 }
@@ -77,7 +76,6 @@ fn busy_before_no_block() -> Result<(), Fail> {
 #[test]
 fn a_full_map() -> Result<(), Fail> {
     runs_out(
-        16,
         &mut [9; 2],
         &mut [Mark::Condemned; 2],
         &mut [BLANK; 1],
@@ -88,14 +86,14 @@ fn a_full_map() -> Result<(), Fail> {
             ending: Ending::Abandon,
         },
         &[
-            (Ask::Begin(8, Ending::Commit), Answer::Refused(6)),
-            (Ask::Write(7), Answer::Refused(4)),
-            (Ask::Tally, Answer::Counts(1, 1, 0, 0)),
+            (Ask::Begin(8, Ending::Commit), Err(6)),
+            (Ask::Call(Call::Write(7)), Err(4)),
+            (Ask::Call(Call::Tally), counts(1, 1, 0, 0)),
         ],
         &[
-            (Ask::Begin(8, Ending::Commit), Answer::Block(1)),
-            (Ask::Begin(8, Ending::Commit), Answer::Block(0)),
-            (Ask::Begin(7, Ending::Commit), Answer::Refused(6)),
+            (Ask::Begin(8, Ending::Commit), Ok(Reply::Block(1))),
+            (Ask::Begin(8, Ending::Commit), Ok(Reply::Block(0))),
+            (Ask::Begin(7, Ending::Commit), Err(6)),
         ],
     )
 }
@@ -104,28 +102,26 @@ fn a_full_map() -> Result<(), Fail> {
 #[test]
 fn blocks_take_turns() -> Result<(), Fail> {
     runs(
-        16,
         &mut [9; 1],
         &mut [Mark::Condemned; 1],
         &mut [BLANK; 1],
         &[
-            (Ask::Begin(3, Ending::Abandon), Answer::Block(0)),
-            (Ask::Begin(9, Ending::Abandon), Answer::Block(0)),
+            (Ask::Begin(3, Ending::Abandon), Ok(Reply::Block(0))),
+            (Ask::Begin(9, Ending::Abandon), Ok(Reply::Block(0))),
         ],
     )?;
     runs(
-        16,
         &mut [9; 3],
         &mut [Mark::Condemned; 3],
         &mut [BLANK; 1],
         &[
-            (Ask::Begin(1, Ending::Abandon), Answer::Block(0)),
-            (Ask::Begin(2, Ending::Condemn), Answer::Block(1)),
-            (Ask::Begin(3, Ending::Abandon), Answer::Block(2)),
-            (Ask::Begin(4, Ending::Abandon), Answer::Block(0)),
-            (Ask::Begin(5, Ending::Commit), Answer::Block(2)),
-            (Ask::Begin(5, Ending::Abandon), Answer::Block(0)),
-            (Ask::Tally, Answer::Counts(1, 0, 1, 1)),
+            (Ask::Begin(1, Ending::Abandon), Ok(Reply::Block(0))),
+            (Ask::Begin(2, Ending::Condemn), Ok(Reply::Block(1))),
+            (Ask::Begin(3, Ending::Abandon), Ok(Reply::Block(2))),
+            (Ask::Begin(4, Ending::Abandon), Ok(Reply::Block(0))),
+            (Ask::Begin(5, Ending::Commit), Ok(Reply::Block(2))),
+            (Ask::Begin(5, Ending::Abandon), Ok(Reply::Block(0))),
+            (Ask::Call(Call::Tally), counts(1, 0, 1, 1)),
         ],
     )
 }

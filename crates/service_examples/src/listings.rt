@@ -2,7 +2,7 @@
 use crate::card::{BLANK, QUIET};
 use bench_card::list_tape;
 use blocks::{Blocks, Mark};
-use checks::{check, check_eq};
+use checks::check_eq;
 use label::OldBlock;
 use listing::{Line, play};
 use std::test::*;
@@ -15,9 +15,9 @@ fn reads(rt: &HostRuntime, line: &Line, expected: &str) -> Result<(), Fail> {
 
 // The lines read just so.
 fn read(rt: &HostRuntime, lines: &[Line], expected: &[&str]) -> Result<(), Fail> {
-    check(lines.len() == expected.len())?;
-    for i in 0..lines.len() {
-        reads(rt, &lines[i], expected[i])?;
+    check_eq(lines.len(), expected.len())?;
+    for (line, text) in lines.iter().zip(expected) {
+        reads(rt, line, text)?;
     }
     Ok(())
 }
@@ -71,7 +71,7 @@ fn nine_writes(rt: HostRuntime) -> Result<(), Fail> {
         tape.extend_from_slice(&[1, 0, 4, 0, 0, 0, n])?;
     }
     let lines = list_tape(tape.as_slice(), rt.alloc())?;
-    check(lines.len() == 9)?;
+    check_eq(lines.len(), 9)?;
     reads(&rt, &lines[7], "49 ok 7")?;
     reads(&rt, &lines[8], "56 fault 3 5")
 }

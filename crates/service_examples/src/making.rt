@@ -1,5 +1,5 @@
 // Services that their check refuses, and a grant shown to another service.
-use crate::card::{Answer, BLANK, QUIET, foreign_each, make, refuses};
+use crate::card::{BLANK, QUIET, Told, counts, foreign_each, make, refuses};
 use blocks::Mark;
 use label::OldBlock;
 use map::Map;
@@ -47,7 +47,7 @@ fn a_map_that_holds_a_pair() -> Result<(), Fail> {
 }
 
 // A grant is shown to another service with the given bound, for each ending.
-fn shown(limit: u32, number: u8, tally: Answer) -> Result<(), Fail> {
+fn shown(limit: u32, number: u8, tally: Told) -> Result<(), Fail> {
     let mut cells = [9; 1];
     let mut marks = [Mark::Sound; 1];
     let mut entry_rows = [BLANK; 1];
@@ -73,6 +73,6 @@ fn shown(limit: u32, number: u8, tally: Answer) -> Result<(), Fail> {
 
 #[test]
 fn a_grant_of_another_service() -> Result<(), Fail> {
-    shown(16, 7, Answer::Counts(1, 0, 0, 0))?;
-    shown(0, 1, Answer::Refused(1))
+    shown(16, 7, counts(1, 0, 0, 0))?;
+    shown(0, 1, Err(1))
 }

@@ -1,5 +1,5 @@
 -- The lemmas of the crate.
-mod Walks
+mod Firsts
 mod Lookups
 mod Changes
 mod Area

@@ -6,14 +6,15 @@
 --   within f rows          f of the rows, or the rows of too large an area as they are
 --   holds num r n          whether the row r is used and its label has the number n
 --   look num rows n        the payload of the first row that holds n
---   place num rows n       the index of the first row that holds n, or the number of rows
---   spare rows             the index of the first unused row, or the number of rows
+--   place num rows n       the index of the first row that holds n, or none
+--   spare rows             the index of the first unused row, or none
 --   busy rows              the number of used rows
 --   numbers num rows       the numbers of the used rows
 --   apart num rows         whether each number is held by one row at most
 --   WellKept num rows      the rows that count are apart
 --   unused r               the row r with its mark cleared
 --   emptied rows           every mark cleared
+--   at_first p f rows      the first row that passes p made what f makes of it
 --   replaced num rows n v  the payload of the first row that holds n replaced by v
 --   filled rows l v        the label l and the payload v put into the first unused row
 --   cleared num rows n     the mark of the first row that holds n cleared
@@ -21,7 +22,7 @@
 --   take_rows              the rows after a take
 --   ask_answer             what an ask answers
 -- Assumes nothing.
-use Rattle.std.specs.Prelude.{◌≡◌, ℕ, suc, ◌<◌, ◌≤◌, Bool, true, false, cond, List, [], ◌∷◌, length, is_some, Some, None, Ok, Err, Option, Result, ◌==◌, nat_lt}
+use Rattle.std.specs.Prelude.{◌≡◌, ℕ, ◌<◌, ◌≤◌, Bool, true, false, not, cond, List, [], ◌∷◌, length, map, filter, position, is_some, Some, None, Ok, Err, Option, Result, ◌==◌, nat_lt}
 use Rattle.refusal.specs.declared.Refusal.{Refusal}
 use Rattle.refusal.specs.declared.Refusal.TheVariants.{BadSize}
 use Rattle.map.specs.declared.Denied.{Denied}
@@ -49,20 +50,20 @@ abbrev pub unused : {L V : Type 0} → Row L V → Row L V
 unused r = record { used = false; label = r.label; payload = r.payload }
 
 abbrev pub emptied : {L V : Type 0} → List (Row L V) → List (Row L V)
-emptied [] = []
-emptied (r ∷ rs) = unused r ∷ emptied rs
+emptied rows = map unused rows
 
-abbrev pub spare : {L V : Type 0} → List (Row L V) → ℕ
-spare [] = 0
-spare (r ∷ rs) = cond r.used (suc (spare rs)) 0
+abbrev pub spare : {L V : Type 0} → List (Row L V) → Option ℕ
+spare rows = position (λ r. not r.used) rows
 
 abbrev pub busy : {L V : Type 0} → List (Row L V) → ℕ
-busy [] = 0
-busy (r ∷ rs) = cond r.used (suc (busy rs)) (busy rs)
+busy rows = length (filter (λ r. r.used) rows)
+
+abbrev pub at_first : {R : Type 0} → (R → Bool) → (R → R) → List R → List R
+at_first p f [] = []
+at_first p f (r ∷ rs) = cond (p r) (f r ∷ rs) (r ∷ at_first p f rs)
 
 abbrev pub filled : {L V : Type 0} → List (Row L V) → L → V → List (Row L V)
-filled [] l v = []
-filled (r ∷ rs) l v = cond r.used (r ∷ filled rs l v) (record { used = true; label = l; payload = v } ∷ rs)
+filled rows l v = at_first (λ r. not r.used) (λ _. record { used = true; label = l; payload = v }) rows
 
 module _ {L V : Type 0} (num : L → ℕ) where
   abbrev pub holds : Row L V → ℕ → Bool
@@ -72,13 +73,11 @@ module _ {L V : Type 0} (num : L → ℕ) where
   look [] n = None
   look (r ∷ rs) n = cond (holds r n) (Some r.payload) (look rs n)
 
-  abbrev pub place : List (Row L V) → ℕ → ℕ
-  place [] n = 0
-  place (r ∷ rs) n = cond (holds r n) 0 (suc (place rs n))
+  abbrev pub place : List (Row L V) → ℕ → Option ℕ
+  place rows n = position (λ r. holds r n) rows
 
   abbrev pub numbers : List (Row L V) → List ℕ
-  numbers [] = []
-  numbers (r ∷ rs) = cond r.used (num r.label ∷ numbers rs) (numbers rs)
+  numbers rows = map (λ r. num r.label) (filter (λ r. r.used) rows)
 
   abbrev pub apart : List (Row L V) → Bool
   apart [] = true
@@ -88,21 +87,19 @@ module _ {L V : Type 0} (num : L → ℕ) where
   WellKept rows = apart (live rows) ≡ true
 
   abbrev pub replaced : List (Row L V) → ℕ → V → List (Row L V)
-  replaced [] n v = []
-  replaced (r ∷ rs) n v = cond (holds r n) (record { used = true; label = r.label; payload = v } ∷ rs) (r ∷ replaced rs n v)
+  replaced rows n v = at_first (λ r. holds r n) (λ r. record { used = true; label = r.label; payload = v }) rows
 
   abbrev pub cleared : List (Row L V) → ℕ → List (Row L V)
-  cleared [] n = []
-  cleared (r ∷ rs) n = cond (holds r n) (unused r ∷ rs) (r ∷ cleared rs n)
+  cleared rows n = at_first (λ r. holds r n) unused rows
 
   abbrev pub put_rows : L → V → List (Row L V) → List (Row L V)
   put_rows l v rows = cond (is_some (look rows (num l))) (replaced rows (num l) v) (filled rows l v)
 
   abbrev pub put_answer : ℕ → List (Row L V) → Result (Option V) Denied
-  put_answer n rows = cond (is_some (look rows n)) (Ok (look rows n)) (cond (nat_lt (spare rows) (length rows)) (Ok None) (Err Full))
+  put_answer n rows = cond (is_some (look rows n)) (Ok (look rows n)) (cond (is_some (spare rows)) (Ok None) (Err Full))
 
   abbrev pub take_rows : ℕ → List (Row L V) → List (Row L V)
   take_rows n rows = cleared rows n
 
   abbrev pub ask_answer : ℕ → List (Row L V) → Bool
-  ask_answer n rows = cond (is_some (look rows n)) true (nat_lt (spare rows) (length rows))
+  ask_answer n rows = cond (is_some (look rows n)) true (is_some (spare rows))

@@ -1,18 +1,16 @@
 -- Tables with the same labels in the same slots: other marks, or another payload.
-use Rattle.std.proofs.Common.{◌≡◌, ℕ, zero, suc, ◌<◌, true, cond, eqb, ◌⊎◌, List, [], ◌∷◌, length, get_or, Some, None, Option, sym, refl, ap, ◌∙◌, subst, ⊎_elim, arith, MatchOption}
-use Rattle.std.proofs.lemmas.List.{get_or_default}
-use Rattle.std.proofs.lemmas.Bool.{cases_eq, cond-false, cond-true, eq-eqb, ne_eqb}
+use Rattle.std.proofs.Common.{◌≡◌, ℕ, zero, suc, ◌<◌, true, cond, eqb, ◌⊎◌, List, [], ◌∷◌, length, get_or, Some, sym, refl, ap, ◌∙◌, subst, ⊎_elim, arith}
 use Rattle.label.specs.declared.Label.{Ghosts}
 use Rattle.bucket.specs.Changes.{blank_mark, modify, peek, repaid, with_mark}
 use Rattle.bucket.specs.Slots.{slot_of}
 use Rattle.bucket.specs.Spread.{contains, mask_of}
 use Rattle.bucket.specs.declared.slots.Bucket.{Bucket}
 use Rattle.bucket.specs.declared.slots.Slot.{Slot}
-use Rattle.bucket.proofs.Changed.{slot_with_other, slot_with_same, with_filter, with_moved}
-use Rattle.bucket.proofs.Lists.{get_or_modify_other, get_or_modify_same, length_modify, peek_modify_keep, pick}
-use Rattle.table.specs.Tables.{Lies, Nowhere, Sound, first_of, look, movers, movers_in, second_of, unmarked}
-use Rattle.table.proofs.Leaving.{movers_keep}
-use Rattle.table.proofs.Looking.{Paired, look_at, look_cases, look_none}
+use Rattle.bucket.proofs.Changed.{by_slot, slot_with_cases, slot_with_same, with_filter, with_moved}
+use Rattle.bucket.proofs.Lists.{get_or_modify_same, length_modify, peek_modify_keep}
+use Rattle.table.specs.Tables.{Lies, Sound, first_of, look, movers, movers_in, second_of, unmarked}
+use Rattle.table.proofs.Leaving.{movers_keep, slots_modify}
+use Rattle.table.proofs.Looking.{edit_other, lies_once, look_as, look_but, look_some}
 
 module _ {L V : Type 0} where
   abbrev Alike : Slot L V → Slot L V → Type 0
@@ -49,42 +47,20 @@ module _ {L V : Type 0} where
 
   -- another payload
   movers_in_repaid : (kind : Ghosts L) (size q : ℕ) (k : ℕ) (v : V) (b : Bucket L V) (i : ℕ) → movers_in kind size q i (repaid k v b) ≡ movers_in kind size q i b
-  movers_in_repaid kind size q zero v b i = refl
-  movers_in_repaid kind size q (suc zero) v b i = refl
-  movers_in_repaid kind size q (suc (suc zero)) v b i = refl
-  movers_in_repaid kind size q (suc (suc (suc k))) v b i = refl
+  movers_in_repaid kind size q k v b i = by_slot (λ k. movers_in kind size q i (repaid k v b) ≡ movers_in kind size q i b) refl refl refl (λ k. refl) k
 
-  repaid_alike : (k t : ℕ) (v : V) (b : Bucket L V) → Alike (slot_of (repaid k v b) t) (slot_of b t)
-  repaid_alike zero zero v b = (refl, refl, refl)
-  repaid_alike zero (suc zero) v b = (refl, refl, refl)
-  repaid_alike zero (suc (suc zero)) v b = (refl, refl, refl)
-  repaid_alike zero (suc (suc (suc t))) v b = (refl, refl, refl)
-  repaid_alike (suc zero) zero v b = (refl, refl, refl)
-  repaid_alike (suc zero) (suc zero) v b = (refl, refl, refl)
-  repaid_alike (suc zero) (suc (suc zero)) v b = (refl, refl, refl)
-  repaid_alike (suc zero) (suc (suc (suc t))) v b = (refl, refl, refl)
-  repaid_alike (suc (suc zero)) zero v b = (refl, refl, refl)
-  repaid_alike (suc (suc zero)) (suc zero) v b = (refl, refl, refl)
-  repaid_alike (suc (suc zero)) (suc (suc zero)) v b = (refl, refl, refl)
-  repaid_alike (suc (suc zero)) (suc (suc (suc t))) v b = (refl, refl, refl)
-  repaid_alike (suc (suc (suc k))) zero v b = (refl, refl, refl)
-  repaid_alike (suc (suc (suc k))) (suc zero) v b = (refl, refl, refl)
-  repaid_alike (suc (suc (suc k))) (suc (suc zero)) v b = (refl, refl, refl)
-  repaid_alike (suc (suc (suc k))) (suc (suc (suc t))) v b = (refl, refl, refl)
-
-  list_alike : (f : Bucket L V → Bucket L V) → ((b : Bucket L V) (t : ℕ) → Alike (slot_of (f b) t) (slot_of b t)) → (bs : List (Bucket L V)) (i j t : ℕ) (d : Bucket L V) → Alike (slot_of (get_or (modify f bs i) j d) t) (slot_of (get_or bs j d) t)
-  list_alike f h [] i j t d = (refl, refl, refl)
-  list_alike f h (b ∷ bs) zero zero t d = h b t
-  list_alike f h (b ∷ bs) zero (suc j) t d = (refl, refl, refl)
-  list_alike f h (b ∷ bs) (suc i) zero t d = (refl, refl, refl)
-  list_alike f h (b ∷ bs) (suc i) (suc j) t d = list_alike f h bs i j t d
+  repaid_alike : (k : ℕ) (v : V) (b : Bucket L V) (t : ℕ) → Alike (slot_of (repaid k v b) t) (slot_of b t)
+  repaid_alike k v b t =
+      ⊎_elim (λ w. (ap (λ s. s.used) w.1 ∙ ap (λ s. s.used) (sym w.2), ap (λ s. s.tag) w.1 ∙ ap (λ s. s.tag) (sym w.2), ap (λ s. s.label) w.1 ∙ ap (λ s. s.label) (sym w.2)))
+      (λ e. (ap (λ s. s.used) e, ap (λ s. s.tag) e, ap (λ s. s.label) e))
+      (slot_with_cases b k t (record { used = (slot_of b k).used; tag = (slot_of b k).tag; label = (slot_of b k).label; payload = v }))
 
   module _ (kind : Ghosts L) (bs : List (Bucket L V)) (sound : Sound kind bs) (n i k : ℕ) (v : V) (l : Lies kind bs n i k) where
     abbrev es : List (Bucket L V)
     es = modify (repaid k v) bs i
 
     al : (j t : ℕ) (d : Bucket L V) → Alike (slot_of (get_or es j d) t) (slot_of (get_or bs j d) t)
-    al j t d = list_alike (repaid k v) (λ b t. repaid_alike k t v b) bs i j t d
+    al j t d = slots_modify Alike (λ s. (refl, refl, refl)) (repaid k v) (repaid_alike k v) bs i j t d
 
     mv : (q : ℕ) → peek (λ b. b.moved) 0 es q ≡ peek (λ b. b.moved) 0 bs q
     mv q = peek_modify_keep (λ b. b.moved) 0 (repaid k v) bs i q (λ b. with_moved b k _)
@@ -102,28 +78,13 @@ module _ {L V : Type 0} where
     here d = ap (λ b. (slot_of b k).payload) (get_or_modify_same (repaid k v) bs i d l.0) ∙ ap (λ s. s.payload) (slot_with_same (get_or bs i d) k _)
 
     there : (j t : ℕ) (d : Bucket L V) → t < 4 → ((j ≡ i) × (t ≡ k) → ⊥) → slot_of (get_or es j d) t ≡ slot_of (get_or bs j d) t
-    there j t d few ne =
-        ⊎_elim
-        (λ e. subst (λ z. slot_of (get_or es z d) t ≡ slot_of (get_or bs z d) t) (sym e) (ap (λ b. slot_of b t) (get_or_modify_same (repaid k v) bs i d l.0) ∙ slot_with_other (get_or bs i d) k t _ l.1 few (λ w. ne (e, w))))
-        (λ w. ap (λ b. slot_of b t) (get_or_modify_other (repaid k v) bs i j d w)) (cases_eq j i)
+    there j t d few ne = edit_other (λ b. record { used = (slot_of b k).used; tag = (slot_of b k).tag; label = (slot_of b k).label; payload = v }) bs i k j t d l.0 l.1 few ne
 
     pub repaid_look : (m : ℕ) → look kind es m ≡ cond (eqb m n) (Some v) (look kind bs m)
     repaid_look m =
-        ⊎_elim (λ e. ap (look kind es) e ∙ at_n ∙ sym (cond-true (eqb m n) (Some v) (look kind bs m) (eq-eqb m n e))) (λ ne. go ne (look kind bs m) (look_cases kind bs m) ∙ sym (cond-false (eqb m n) (Some v) (look kind bs m) (ne_eqb m n ne))) (cases_eq m n)
+        look_but (look kind es) (look kind bs) n m (Some v) (look_some kind es repaid_sound n i k v (lies_new n i k l) here)
+        (λ ne. look_as kind bs es repaid_sound m (lies_back kind bs es sound (length_modify (repaid k v) bs i) al mv fl ou m)
+        (λ j t h. (lies_new m j t h, λ d. ap (λ s. s.payload) (there j t d h.1 (λ e. ne (lies_once kind bs m n i j k t d h l e))))))
       where
-        x : Bucket L V
-        x = (pick bs i l.0).0
-
-        at : (w j t : ℕ) (h : Lies kind bs w j t) → look kind es w ≡ Some (slot_of (get_or es j x) t).payload
-        at w j t h = let r = lies_forth kind bs es sound (length_modify (repaid k v) bs i) al mv fl ou w j t h in look_at kind es repaid_sound w j t (get_or es j x) (get_or_default es j x (get_or es j x) r.0) r
-
-        at_n : look kind es n ≡ Some v
-        at_n = at n i k l ∙ ap Some (here x)
-
-        go : (m ≡ n → ⊥) → (o : Option V) → MatchOption o (Nowhere kind bs m) (Paired kind bs m) → look kind es m ≡ o
-        go ne None h = look_none kind es m (λ j t w. h j t (lies_back kind bs es sound (length_modify (repaid k v) bs i) al mv fl ou m j t w))
-        go ne (Some w) h =
-            let j = h.0 in
-            let t = h.1 in
-            let other : (j ≡ i) × (t ≡ k) → ⊥ = λ e. ne (sym (h.2.2 x).1 ∙ ap (λ z. kind.number (slot_of (get_or bs z x) t).label) e.0 ∙ ap (λ z. kind.number (slot_of (get_or bs i x) z).label) e.1 ∙ (l.2 x).1) in
-            at m j t h.2 ∙ ap (λ z. Some z.payload) (there j t x h.2.1 other) ∙ ap Some (h.3 x)
+        lies_new : (m j t : ℕ) → Lies kind bs m j t → Lies kind es m j t
+        lies_new = lies_forth kind bs es sound (length_modify (repaid k v) bs i) al mv fl ou

@@ -1,7 +1,6 @@
 -- What find and take answer, from where the label was found.
-use Rattle.std.proofs.Common.{◌≡◌, ℕ, ◌<◌, true, false, cond, eqb, List, [], length, get_or, Some, None, sym, refl, ap, ◌∙◌, subst, ⊎_elim, arith}
-use Rattle.std.proofs.lemmas.List.{get_or_read}
-use Rattle.std.proofs.lemmas.Bool.{cases_eq, cond-false, cond-true, eq-eqb, ne_eqb, true≢false}
+use Rattle.std.proofs.Common.{◌≡◌, ℕ, ◌<◌, true, false, cond, eqb, List, [], length, get_or, Some, None, sym, refl, ap, ◌∙◌, subst}
+use Rattle.std.proofs.lemmas.Bool.{cond-false, cond-true, true≢false}
 use Rattle.std.specs.Map.{update}
 use Rattle.label.specs.declared.Label.{Ghosts}
 use Rattle.label.proofs.Sameness.{eqb_swap}
@@ -20,7 +19,7 @@ use Rattle.table.specs.declared.finding.Found.{Found}
 use Rattle.table.specs.declared.finding.Spot.{Spot}
 use Rattle.table.proofs.Both.{length_at_both}
 use Rattle.table.proofs.Leaving.{vacate_look, vacate_sound}
-use Rattle.table.proofs.Looking.{look_at, look_none}
+use Rattle.table.proofs.Looking.{look_but, look_none, look_some}
 use Rattle.table.proofs.Marks.{rest_vacated}
 use Rattle.table.proofs.Rule.{looks_lies, looks_nowhere}
 
@@ -32,14 +31,6 @@ module _ {X : Type 0} (bs : List X) where
   live_wrong f = cond-false (allowed_size (length bs)) bs [] f
 
 module _ {L V : Type 0} (kind : Ghosts L) (bs : List (Bucket L V)) (n : ℕ) where
-  pub found_wrong : allowed_size (length bs) ≡ false → Finds kind bs n (record { payload = None; read = 0 })
-  found_wrong f =
-      record {
-        right = λ t. absurd (true≢false (sym t ∙ f));
-        wrong = λ _. (refl, refl);
-        answer = λ _. sym (ap (λ z. look kind z n) (live_wrong bs f));
-      }
-
   module _ (t : allowed_size (length bs) ≡ true) where
     some : 0 < length bs
     some = allowed_pos (length bs) (allowed_true (length bs) t)
@@ -50,14 +41,14 @@ module _ {L V : Type 0} (kind : Ghosts L) (bs : List (Bucket L V)) (n : ℕ) whe
     sound_of : Sound kind (live bs) → Sound kind bs
     sound_of sound = subst (Sound kind) (live_right bs t) sound
 
-    pub found : (x : Spot) (c : ℕ) (v : V) (y : Bucket L V) → Looks kind bs n (Some x) c → x.bucket < length bs → y ≡ get_or bs x.bucket y → v ≡ (slot_of y x.slot).payload → Finds kind bs n (record { payload = Some v; read = c })
-    found x c v y looks lt is e =
-        let every : (b : Bucket L V) → (slot_of (get_or bs x.bucket b) x.slot).payload ≡ v = λ b. sym (e ∙ ap (λ z. (slot_of z x.slot).payload) (get_or_read bs x.bucket y lt is b)) in
+    pub found : (x : Spot) (c : ℕ) (v : V) → Looks kind bs n (Some x) c → ((d : Bucket L V) → v ≡ (slot_of (get_or bs x.bucket d) x.slot).payload) → Finds kind bs n (record { payload = Some v; read = c })
+    found x c v looks e =
+        let lies = looks_lies kind bs n some x c looks in
         record {
-          right = λ _. (x, looks, every);
+          right = λ _. (x, looks, λ d. sym (e d));
           wrong = not_wrong;
           answer = λ sound.
-              ap Some e ∙ sym (look_at kind bs (sound_of sound) n x.bucket x.slot y is (looks_lies kind bs n some x c looks)) ∙ ap (λ z. look kind z n) (sym (live_right bs t));
+              sym (look_some kind bs (sound_of sound) n x.bucket x.slot v lies (λ d. sym (e d))) ∙ ap (λ z. look kind z n) (sym (live_right bs t));
         }
 
     pub found_none : (c : ℕ) → Looks kind bs n None c → Finds kind bs n (record { payload = None; read = c })
@@ -79,17 +70,12 @@ module _ {L V : Type 0} (kind : Ghosts L) (bs : List (Bucket L V)) (n : ℕ) whe
       record {
         kept = kept;
         size = refl;
-        pairs = λ m. ⊎_elim
-            (λ e. ap (look kind (live bs)) e ∙ look_none kind (live bs) n nowhere ∙ sym (cond-true (eqb n m) None (look kind (live bs) m) (eq-eqb n m (sym e))))
-            (λ ne. sym (cond-false (eqb n m) None (look kind (live bs) m) (ne_eqb n m (λ e. ne (sym e)))))
-            (cases_eq m n);
+        pairs = λ m. look_but (look kind (live bs)) (look kind (live bs)) n m None (look_none kind (live bs) n nowhere) (λ ne. refl)
+            ∙ ap (λ b. cond b None (look kind (live bs) m)) (eqb_swap m n);
         answer = sym (look_none kind (live bs) n nowhere);
         held = λ i k l. absurd (nowhere i k l);
         none = λ _. refl;
       }
-
-  pub took_wrong : allowed_size (length bs) ≡ false → WellKept kind (live bs) → Takes kind bs n None bs
-  took_wrong f kept = unchanged kept (subst (λ z. Nowhere kind z n) (sym (live_wrong bs f)) (λ i k l. let h = l.0 in omega arith))
 
   module _ (t : allowed_size (length bs) ≡ true) (kept : WellKept kind (live bs)) where
     abbrev at_rest : unmarked bs ≡ bs
@@ -128,8 +114,8 @@ module _ {L V : Type 0} (kind : Ghosts L) (bs : List (Bucket L V)) (n : ℕ) whe
             pairs = λ m. ap (λ z. look kind z m) (live_es ∙ area_is) ∙ vacate_look kind bs (sound_of t kept.sound) n x.bucket x.slot y lies y_is m
                 ∙ ap (λ b. cond b None (look kind bs m)) (eqb_swap m n)
                 ∙ ap (λ z. update eqb (look kind z) n None m) (sym (live_right bs t));
-            answer = ap (λ z. Some z.payload) (slot y) ∙ ap (λ b. Some (slot_of b x.slot).payload) (sym y_is)
-                ∙ sym (look_at kind bs (sound_of t kept.sound) n x.bucket x.slot y y_is lies) ∙ ap (λ z. look kind z n) (sym (live_right bs t));
+            answer = sym (look_some kind bs (sound_of t kept.sound) n x.bucket x.slot s.payload lies (λ d. ap (λ z. z.payload) (sym (slot d))))
+                ∙ ap (λ z. look kind z n) (sym (live_right bs t));
             held = λ i k l. elsewhere i k (subst (λ z. Lies kind z n i k) (live_right bs t) l);
             none = λ nowhere. absurd (nowhere x.bucket x.slot (subst (λ z. Lies kind z n x.bucket x.slot) (sym (live_right bs t)) lies));
           }

@@ -1,9 +1,12 @@
 -- What a table pairs with a label, and the slot where the label lies.
-use Rattle.std.proofs.Common.{◌≡◌, ℕ, zero, suc, ◌<◌, Bool, true, false, cond, ◌&&◌, eqb, List, [], ◌∷◌, length, get_or, Some, None, Option, sym, refl, ◌∙◌, subst, arith, MatchOption}
+use Rattle.std.proofs.Common.{◌≡◌, ℕ, zero, suc, ◌<◌, Bool, true, false, cond, ◌&&◌, eqb, List, [], ◌∷◌, length, get_or, Some, None, Option, sym, refl, ap, ◌∙◌, subst, ⊎_elim, arith, MatchOption}
 use Rattle.std.proofs.lemmas.List.{get_or_read}
-use Rattle.std.proofs.lemmas.Bool.{eq-eqb, eqb-true, true≢false}
+use Rattle.std.proofs.lemmas.Bool.{cases_eq, cond-false, cond-true, eq-eqb, eqb-true, ne_eqb, true≢false}
 use Rattle.label.specs.declared.Label.{Ghosts}
-use Rattle.bucket.specs.Slots.{Has, slot_of}
+use Rattle.bucket.specs.Changes.{modify}
+use Rattle.bucket.specs.Slots.{Has, slot_of, with_slot}
+use Rattle.bucket.proofs.Changed.{by_slot, slot_with_other}
+use Rattle.bucket.proofs.Lists.{get_or_modify_other, get_or_modify_same, pick}
 use Rattle.bucket.specs.declared.slots.Bucket.{Bucket}
 use Rattle.bucket.specs.declared.slots.Slot.{Slot}
 use Rattle.table.specs.Tables.{Lies, Nowhere, Sound, hit, hit_in, look, or_else}
@@ -42,10 +45,7 @@ module _ {L V : Type 0} (kind : Ghosts L) where
   NotIn b n = (k : ℕ) → Has kind (slot_of b k) n → ⊥
 
   not_in : (b : Bucket L V) (n : ℕ) → (Has kind b.s0 n → ⊥) → (Has kind b.s1 n → ⊥) → (Has kind b.s2 n → ⊥) → (Has kind b.s3 n → ⊥) → NotIn b n
-  not_in b n e f g h zero = e
-  not_in b n e f g h (suc zero) = f
-  not_in b n e f g h (suc (suc zero)) = g
-  not_in b n e f g h (suc (suc (suc k))) = h
+  not_in b n e f g h = by_slot (λ k. Has kind (slot_of b k) n → ⊥) e f g (λ _. h)
 
   pub bucket_cases : (b : Bucket L V) (n : ℕ) → MatchOption (hit_in kind b n) (NotIn b n) (InBucket b n)
   bucket_cases b n =
@@ -82,3 +82,34 @@ module _ {L V : Type 0} (kind : Ghosts L) where
             let e = sound.once n h.0 h.1 i k h.2 l in
             let a : (slot_of (get_or bs h.0 x) h.1).payload ≡ v = h.3 x in
             cc (e.0, e.1, a, is)
+
+    pub look_some : (i k : ℕ) (v : V) → Lies kind bs n i k → ((d : Bucket L V) → (slot_of (get_or bs i d) k).payload ≡ v) → look kind bs n ≡ Some v
+    look_some i k v l h = let p = pick bs i l.0 in look_at i k p.0 p.1 l ∙ ap Some (ap (λ b. (slot_of b k).payload) p.1 ∙ h p.0)
+
+  -- a label that lies in the same slots with the same payload
+  pub look_as : (bs es : List (Bucket L V)) → Sound kind es → (m : ℕ) → ((j t : ℕ) → Lies kind es m j t → Lies kind bs m j t)
+      → ((j t : ℕ) → Lies kind bs m j t → Lies kind es m j t × ((d : Bucket L V) → (slot_of (get_or es j d) t).payload ≡ (slot_of (get_or bs j d) t).payload)) → look kind es m ≡ look kind bs m
+  look_as bs es sound m back forth = go (look kind bs m) (look_cases bs m)
+    where
+      go : (o : Option V) → MatchOption o (Nowhere kind bs m) (Paired bs m) → look kind es m ≡ o
+      go None h = look_none es m (λ j t w. h j t (back j t w))
+      go (Some v) h = let w = forth h.0 h.1 h.2 in look_some es sound m h.0 h.1 v w.0 (λ d. w.1 d ∙ h.3 d)
+
+-- what it pairs with one label
+pub look_but : {V : Type 0} (f g : ℕ → Option V) (n m : ℕ) (o : Option V) → f n ≡ o → ((m ≡ n → ⊥) → f m ≡ g m) → f m ≡ cond (eqb m n) o (g m)
+look_but f g n m o here there =
+    ⊎_elim (λ e. ap f e ∙ here ∙ sym (cond-true (eqb m n) o (g m) (eq-eqb m n e))) (λ ne. there ne ∙ sym (cond-false (eqb m n) o (g m) (ne_eqb m n ne))) (cases_eq m n)
+
+module _ {L V : Type 0} where
+  -- a slot has one label
+  pub lies_once : (kind : Ghosts L) (bs : List (Bucket L V)) (m n i j k t : ℕ) → Bucket L V → Lies kind bs m j t → Lies kind bs n i k → (j ≡ i) × (t ≡ k) → m ≡ n
+  lies_once kind bs m n i j k t d h l e = let a = (h.2 d).1 in let b = (l.2 d).1 in cc (a, b, e.0, e.1)
+
+  -- the change of slot k of bucket i leaves the other slots
+  pub edit_other : (h : Bucket L V → Slot L V) (bs : List (Bucket L V)) (i k j t : ℕ) (d : Bucket L V) → i < length bs → k < 4 → t < 4 → ((j ≡ i) × (t ≡ k) → ⊥)
+      → slot_of (get_or (modify (λ b. with_slot b k (h b)) bs i) j d) t ≡ slot_of (get_or bs j d) t
+  edit_other h bs i k j t d lt few h' ne =
+      ⊎_elim
+      (λ e. subst (λ z. slot_of (get_or (modify (λ b. with_slot b k (h b)) bs i) z d) t ≡ slot_of (get_or bs z d) t) (sym e)
+      (ap (λ b. slot_of b t) (get_or_modify_same (λ b. with_slot b k (h b)) bs i d lt) ∙ slot_with_other (get_or bs i d) k t _ few h' (λ w. ne (e, w))))
+      (λ w. ap (λ b. slot_of b t) (get_or_modify_other (λ b. with_slot b k (h b)) bs i j d w)) (cases_eq j i)

@@ -7,7 +7,7 @@ use Rattle.bucket.specs.Slots.{slot_of, with_slot}
 use Rattle.bucket.specs.Spread.{mask_of, tag_of}
 use Rattle.bucket.specs.declared.slots.Bucket.{Bucket}
 use Rattle.bucket.specs.declared.slots.Slot.{Slot}
-use Rattle.bucket.proofs.Changed.{with_mark_slots}
+use Rattle.bucket.proofs.Changed.{by_slot, with_mark_slots}
 use Rattle.table.specs.Moving.{at_both, given, occupied, relocated, slot_in, vacated}
 use Rattle.table.specs.Tables.{first_of, unmarked}
 use Rattle.table.proofs.Alike.{length_unmarked, peek_unmarked}
@@ -25,36 +25,13 @@ module _ {L V : Type 0} where
       (λ ne. ap unmarked (at_both_two f g bs i p ne) ∙ rest_modify g hg (modify f bs i) p ∙ ap (λ z. modify g z p) (rest_modify f hf bs i) ∙ sym (at_both_two f g (unmarked bs) i p ne)) (cases_eq p i)
 
   with_remark : (b : Bucket L V) (k : ℕ) (s : Slot L V) → with_mark blank_mark (with_slot b k s) ≡ with_slot (with_mark blank_mark b) k s
-  with_remark b zero s = refl
-  with_remark b (suc zero) s = refl
-  with_remark b (suc (suc zero)) s = refl
-  with_remark b (suc (suc (suc k))) s = refl
+  with_remark b k s = by_slot (λ k. with_mark blank_mark (with_slot b k s) ≡ with_slot (with_mark blank_mark b) k s) refl refl refl (λ k. refl) k
 
   repaid_remark : (k : ℕ) (v : V) (b : Bucket L V) → with_mark blank_mark (repaid k v b) ≡ repaid k v (with_mark blank_mark b)
-  repaid_remark zero v b = refl
-  repaid_remark (suc zero) v b = refl
-  repaid_remark (suc (suc zero)) v b = refl
-  repaid_remark (suc (suc (suc k))) v b = refl
+  repaid_remark k v b = by_slot (λ k. with_mark blank_mark (repaid k v b) ≡ repaid k v (with_mark blank_mark b)) refl refl refl (λ k. refl) k
 
   freed_remark : (k : ℕ) (b : Bucket L V) → with_mark blank_mark (freed k b) ≡ freed k (with_mark blank_mark b)
-  freed_remark zero b = refl
-  freed_remark (suc zero) b = refl
-  freed_remark (suc (suc zero)) b = refl
-  freed_remark (suc (suc (suc k))) b = refl
-
-  pub rest_repaid : (bs : List (Bucket L V)) (i k : ℕ) (v : V) → unmarked bs ≡ bs → unmarked (modify (repaid k v) bs i) ≡ modify (repaid k v) bs i
-  rest_repaid bs i k v h = rest_modify (repaid k v) (repaid_remark k v) bs i ∙ ap (λ z. modify (repaid k v) z i) h
-
-  pub rest_occupied : (kind : Ghosts L) (bs : List (Bucket L V)) (n i k : ℕ) (l : L) (v : V) → unmarked bs ≡ bs → unmarked (occupied kind bs n i k l v) ≡ occupied kind bs n i k l v
-  rest_occupied kind bs n i k l v h =
-      rest_at_both (filled k (record { used = true; tag = tag_of (kind.spread n); label = l; payload = v })) (moved_out (mask_of (kind.spread n))) (λ b. with_remark b k _) (λ b. refl) bs i (first_of kind (length bs) n)
-      ∙ ap (λ z. at_both (filled k (record { used = true; tag = tag_of (kind.spread n); label = l; payload = v })) (moved_out (mask_of (kind.spread n))) z i (first_of kind (length bs) n)) h
-
-  pub rest_vacated : (kind : Ghosts L) (bs : List (Bucket L V)) (n i k : ℕ) → unmarked bs ≡ bs → unmarked (vacated kind bs n i k) ≡ vacated kind bs n i k
-  rest_vacated kind bs n i k h =
-      rest_at_both (freed k) moved_back (freed_remark k) (λ b. refl) bs i (first_of kind (length bs) n) ∙ ap (λ z. at_both (freed k) moved_back z i (first_of kind (length bs) n)) h
-
-  -- ---- the same changes under other marks
+  freed_remark k b = by_slot (λ k. with_mark blank_mark (freed k b) ≡ freed k (with_mark blank_mark b)) refl refl refl (λ k. refl) k
 
   unmarked_vacated : (kind : Ghosts L) (bs : List (Bucket L V)) (n i k : ℕ) → unmarked (vacated kind bs n i k) ≡ vacated kind (unmarked bs) n i k
   unmarked_vacated kind bs n i k =
@@ -65,6 +42,17 @@ module _ {L V : Type 0} where
   unmarked_occupied kind bs n i k l v =
       rest_at_both (filled k (record { used = true; tag = tag_of (kind.spread n); label = l; payload = v })) (moved_out (mask_of (kind.spread n))) (λ b. with_remark b k _) (λ b. refl) bs i (first_of kind (length bs) n)
       ∙ ap (λ z. at_both (filled k (record { used = true; tag = tag_of (kind.spread n); label = l; payload = v })) (moved_out (mask_of (kind.spread n))) (unmarked bs) i (first_of kind z n)) (sym (length_unmarked bs))
+
+  -- ---- a table with no marks has none after the change
+
+  pub rest_repaid : (bs : List (Bucket L V)) (i k : ℕ) (v : V) → unmarked bs ≡ bs → unmarked (modify (repaid k v) bs i) ≡ modify (repaid k v) bs i
+  rest_repaid bs i k v h = rest_modify (repaid k v) (repaid_remark k v) bs i ∙ ap (λ z. modify (repaid k v) z i) h
+
+  pub rest_occupied : (kind : Ghosts L) (bs : List (Bucket L V)) (n i k : ℕ) (l : L) (v : V) → unmarked bs ≡ bs → unmarked (occupied kind bs n i k l v) ≡ occupied kind bs n i k l v
+  rest_occupied kind bs n i k l v h = unmarked_occupied kind bs n i k l v ∙ ap (λ z. occupied kind z n i k l v) h
+
+  pub rest_vacated : (kind : Ghosts L) (bs : List (Bucket L V)) (n i k : ℕ) → unmarked bs ≡ bs → unmarked (vacated kind bs n i k) ≡ vacated kind bs n i k
+  rest_vacated kind bs n i k h = unmarked_vacated kind bs n i k ∙ ap (λ z. vacated kind z n i k) h
 
   pub unmarked_relocated : (kind : Ghosts L) (bs : List (Bucket L V)) (a j b k : ℕ) → unmarked (relocated kind bs a j b k) ≡ relocated kind (unmarked bs) a j b k
   unfolding relocated

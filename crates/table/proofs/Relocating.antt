@@ -1,10 +1,10 @@
 -- A label moves to its other bucket.
-use Rattle.std.proofs.Common.{◌≡◌, ℕ, ◌<◌, ◌≤◌, true, false, cond, eqb, ◌⊎◌, List, length, get_or, Some, None, sym, refl, ap, ◌∙◌, subst, inl, inr, ⊎_elim, arith, MatchOption}
+use Rattle.std.proofs.Common.{◌≡◌, ℕ, ◌<◌, ◌≤◌, false, cond, eqb, ◌⊎◌, List, length, get_or, Some, None, sym, refl, ap, ◌∙◌, subst, inl, inr, ⊎_elim, arith, MatchOption}
 use Rattle.std.proofs.lemmas.Bool.{cases_Bool, cases_eq, cond-false, cond-true, eq-eqb, ne_eqb}
 use Rattle.label.specs.declared.Label.{Ghosts}
-use Rattle.bucket.specs.Changes.{filled, freed, moved_back, moved_out, peek, unused}
+use Rattle.bucket.specs.Changes.{peek, unused}
 use Rattle.bucket.specs.Slots.{slot_of}
-use Rattle.bucket.specs.Spread.{mask_of, tag_of}
+use Rattle.bucket.specs.Spread.{mask_of}
 use Rattle.bucket.specs.declared.slots.Bucket.{Bucket}
 use Rattle.bucket.specs.declared.slots.Mark.{Mark}
 use Rattle.bucket.specs.declared.slots.Slot.{Slot}
@@ -39,7 +39,7 @@ module _ {L V : Type 0} where
     cs = vacated kind bs n a j
 
     len_cs : length cs ≡ length bs
-    len_cs = length_at_both (freed j) moved_back bs a (first_of kind (length bs) n)
+    len_cs = length_at_both _ _ bs a _
 
     abbrev es : List (Bucket L V)
     es = occupied kind cs n b k s.label s.payload
@@ -49,20 +49,20 @@ module _ {L V : Type 0} where
     relocated_es = ap (λ o. given o (λ s. occupied kind (vacated kind bs (kind.number s.label) a j) (kind.number s.label) b k s.label s.payload) bs) (peek_read (λ z. Some (slot_of z j)) None bs a x lt x_is)
 
     pub relocate_length : length (relocated kind bs a j b k) ≡ length bs
-    relocate_length = ap length relocated_es ∙ length_at_both (filled k (record { used = true; tag = tag_of (kind.spread n); label = s.label; payload = s.payload })) (moved_out (mask_of (kind.spread n))) cs b (first_of kind (length cs) n) ∙ len_cs
+    relocate_length = ap length relocated_es ∙ length_at_both _ _ cs b _ ∙ len_cs
 
     -- the marks stay, and the slots of the other buckets
     pub relocate_mark : {Y : Type 0} (h : Mark → Y) (e : Y) (q : ℕ) → peek (λ z. h z.mark) e (relocated kind bs a j b k) q ≡ peek (λ z. h z.mark) e bs q
     relocate_mark h e q =
         ap (λ z. peek (λ w. h w.mark) e z q) relocated_es
-        ∙ peek_edit_keep (λ z. h z.mark) e (filled k (record { used = true; tag = tag_of (kind.spread n); label = s.label; payload = s.payload })) (moved_out (mask_of (kind.spread n))) cs b (first_of kind (length cs) n) q (λ z. ap h (with_slot_mark z k _)) (λ z. refl)
-        ∙ peek_edit_keep (λ z. h z.mark) e (freed j) moved_back bs a (first_of kind (length bs) n) q (λ z. ap h (with_slot_mark z j _)) (λ z. refl)
+        ∙ peek_edit_keep (λ z. h z.mark) e _ _ cs b _ q (λ z. ap h (with_slot_mark z k _)) (λ z. refl)
+        ∙ peek_edit_keep (λ z. h z.mark) e _ _ bs a _ q (λ z. ap h (with_slot_mark z j _)) (λ z. refl)
 
     pub relocate_slot : {Y : Type 0} (h : Slot L V → Y) (e : Y) (q t : ℕ) → (q ≡ a → ⊥) → (q ≡ b → ⊥) → peek (λ z. h (slot_of z t)) e (relocated kind bs a j b k) q ≡ peek (λ z. h (slot_of z t)) e bs q
     relocate_slot h e q t na nb =
         ap (λ z. peek (λ w. h (slot_of w t)) e z q) relocated_es
-        ∙ peek_edit_other (λ z. h (slot_of z t)) e (filled k (record { used = true; tag = tag_of (kind.spread n); label = s.label; payload = s.payload })) (moved_out (mask_of (kind.spread n))) cs b (first_of kind (length cs) n) q nb (λ z. ap h (moved_out_slots (mask_of (kind.spread n)) z t))
-        ∙ peek_edit_other (λ z. h (slot_of z t)) e (freed j) moved_back bs a (first_of kind (length bs) n) q na (λ z. ap h (moved_back_slots z t))
+        ∙ peek_edit_other (λ z. h (slot_of z t)) e _ _ cs b _ q nb (λ z. ap h (moved_out_slots (mask_of (kind.spread n)) z t))
+        ∙ peek_edit_other (λ z. h (slot_of z t)) e _ _ bs a _ q na (λ z. ap h (moved_back_slots z t))
 
     module _ (r : Movable kind bs a j b k) where
       lt_b : b < length cs
@@ -71,8 +71,8 @@ module _ {L V : Type 0} where
       pub relocate_free : used_at (relocated kind bs a j b k) a j ≡ false
       relocate_free =
           ap (λ z. used_at z a j) relocated_es
-          ∙ peek_edit_other (λ z. (slot_of z j).used) false (filled k (record { used = true; tag = tag_of (kind.spread n); label = s.label; payload = s.payload })) (moved_out (mask_of (kind.spread n))) cs b (first_of kind (length cs) n) a r.apart (λ z. ap (λ w. w.used) (moved_out_slots (mask_of (kind.spread n)) z j))
-          ∙ peek_edit_here (λ z. (slot_of z j).used) false (freed j) moved_back bs a (first_of kind (length bs) n) false lt (λ z. ap (λ w. w.used) (slot_with_same z j (unused (slot_of z j)))) (λ z. ap (λ w. w.used) (moved_back_slots z j))
+          ∙ peek_edit_other (λ z. (slot_of z j).used) false _ _ cs b _ a r.apart (λ z. ap (λ w. w.used) (moved_out_slots (mask_of (kind.spread n)) z j))
+          ∙ peek_edit_here (λ z. (slot_of z j).used) false _ _ bs a _ false lt (λ z. ap (λ w. w.used) (slot_with_same z j (unused (slot_of z j)))) (λ z. ap (λ w. w.used) (moved_back_slots z j))
 
       module _ (sound : Sound kind bs) (small : length bs ≤ 4096) where
         small_cs : length cs ≤ 4096
@@ -97,7 +97,7 @@ module _ {L V : Type 0} where
         y_is = (pick cs b lt_b).1
 
         free_cs : used_at cs b k ≡ false
-        free_cs = peek_edit_other (λ z. (slot_of z k).used) false (freed j) moved_back bs a (first_of kind (length bs) n) b (λ e. r.apart (sym e)) (λ z. ap (λ w. w.used) (moved_back_slots z k)) ∙ r.free
+        free_cs = peek_edit_other (λ z. (slot_of z k).used) false _ _ bs a _ b (λ e. r.apart (sym e)) (λ z. ap (λ w. w.used) (moved_back_slots z k)) ∙ r.free
 
         home : (b ≡ first_of kind (length cs) n) ⊎ (b ≡ second_of kind (length cs) n)
         home =

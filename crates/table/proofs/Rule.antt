@@ -1,7 +1,7 @@
 -- The rule of find, from what the buckets show; and what it finds in a sound table.
-use Rattle.std.proofs.Common.{◌≡◌, ℕ, ◌<◌, Bool, true, false, List, length, get_or, Some, None, Decides, sym, refl, ap, ◌∙◌, subst, inl, inr, ⊎_elim}
+use Rattle.std.proofs.Common.{◌≡◌, ℕ, ◌<◌, Bool, true, false, List, length, get_or, Some, None, Option, Decides, IsSomeAnd, MatchOption, sym, refl, ap, ◌∙◌, subst, inl, inr, ⊎_elim}
 use Rattle.std.proofs.lemmas.List.{get_or_read}
-use Rattle.std.proofs.lemmas.Bool.{cases_Bool, cases_eq, true≢false}
+use Rattle.std.proofs.lemmas.Bool.{cases_eq, true≢false}
 use Rattle.label.specs.declared.Label.{Ghosts}
 use Rattle.bucket.specs.Changes.{peek}
 use Rattle.bucket.specs.Slots.{Tagged, slot_of}
@@ -34,14 +34,8 @@ module _ {L V : Type 0} (kind : Ghosts L) (bs : List (Bucket L V)) (n : ℕ) whe
         none k (subst (λ z. Tagged kind (slot_of x k) z n) (sym at.tag) (subst (λ b. Tagged kind (slot_of b k) (tag_of (kind.spread n)) n) (sym is) (h.1 x)))
 
   module _ (p s t : ℕ) (at : Aim p s t) where
-    pub in_first : (k : ℕ) → Shows kind bs n p k → Looks kind bs n (Some (record { bucket = p; slot = k })) 1
-    in_first k h = inl (refl, at.first, subst (λ z. Shows kind bs n z k) at.first h)
-
     away : (s ≡ p → ⊥) → second_of kind (length bs) n ≡ first_of kind (length bs) n → ⊥
     away ne e = ne (at.second ∙ e ∙ sym at.first)
-
-    pub one_bucket : Misses kind bs n p → s ≡ p → Looks kind bs n None 1
-    one_bucket miss e = inl (refl, subst (Misses kind bs n) at.first miss, inl (sym at.second ∙ e ∙ at.first))
 
     module _ (m d : ℕ) (em : m ≡ mask_of d) (ed : d ≡ kind.spread n) (x : Bucket L V) (lt : p < length bs) (is : x ≡ get_or bs p x) where
       filter_is : peek (λ b. b.filter) 0 bs (first_of kind (length bs) n) ≡ x.filter
@@ -53,24 +47,21 @@ module _ {L V : Type 0} (kind : Ghosts L) (bs : List (Bucket L V)) (n : ℕ) whe
       pub lets_on : contains x.filter m ≡ true → Asked kind bs n
       lets_on e = asked_is ∙ e
 
-      pub stopped : Misses kind bs n p → contains x.filter m ≡ false → Looks kind bs n None 1
-      stopped miss e =
-          inl (refl, subst (Misses kind bs n) at.first miss, inr (λ a. true≢false (sym a ∙ asked_is ∙ e)))
-
       -- the find does not go on
       pub stops : (known r : Bool) → known ≡ contains x.filter m → Decides r ((s ≡ p → ⊥) × (known ≡ true)) → r ≡ false → Misses kind bs n p → Looks kind bs n None 1
       stops known r ek decides no' miss =
           ⊎_elim
-          (λ e. one_bucket miss e)
-          (λ ne. stopped miss (⊎_elim (λ yes'. absurd (true≢false (sym (decides.1 (ne, yes')) ∙ no'))) (λ f. sym ek ∙ f) (cases_Bool known)))
+          (λ e. inl (refl, subst (Misses kind bs n) at.first miss, inl (sym at.second ∙ e ∙ at.first)))
+          (λ ne. inl (refl, subst (Misses kind bs n) at.first miss, inr (λ a. true≢false (sym (decides.1 (ne, ek ∙ sym asked_is ∙ a)) ∙ no'))))
           (cases_eq s p)
 
     module _ (miss : Misses kind bs n p) (ne : s ≡ p → ⊥) (on : Asked kind bs n) where
-      pub in_second : (k : ℕ) → Shows kind bs n s k → Looks kind bs n (Some (record { bucket = s; slot = k })) 2
-      in_second k h = inr (refl, at.second, subst (Misses kind bs n) at.first miss, away ne, on, subst (λ z. Shows kind bs n z k) at.second h)
-
-      pub in_neither : Misses kind bs n s → Looks kind bs n None 2
-      in_neither h = inr (refl, subst (Misses kind bs n) at.first miss, away ne, on, subst (Misses kind bs n) at.second h)
+      -- the place that the second bucket gives, or none
+      pub in_either : (x : Bucket L V) → s < length bs → x ≡ get_or bs s x → (o : Option ℕ) → MatchOption o ((k : ℕ) → Tagged kind (slot_of x k) t n → ⊥) (λ k. (k < 4) × Tagged kind (slot_of x k) t n)
+          → (r : Option Spot) (Made : ℕ → Spot → Type 0) → MatchOption o (r ≡ None) (λ k. IsSomeAnd r (Made k)) → ((k : ℕ) (z : Spot) → Made k z → z ≡ record { bucket = s; slot = k }) → Looks kind bs n r 2
+      in_either x lt is None none r Made e made = subst (λ z. Looks kind bs n z 2) (sym e) (inr (refl, subst (Misses kind bs n) at.first miss, away ne, on, subst (Misses kind bs n) at.second (misses p s t at s x lt is none)))
+      in_either x lt is (Some k) h (Some z) Made e made = subst (λ y. Looks kind bs n (Some y) 2) (sym (made k z e)) (inr (refl, at.second, subst (Misses kind bs n) at.first miss, away ne, on, subst (λ z. Shows kind bs n z k) at.second (shows p s t at s x lt is k h)))
+      in_either x lt is (Some k) h None Made e made = absurd e
 
   -- ---- in a sound table
 

@@ -1,5 +1,7 @@
 // Where a label lies, and the payload it has.
-ghost use Rattle.std.specs.Prelude.{◌≡◌, ◌<◌, true, length, IfSome, Decides, ◌≢◌};
+ghost use Rattle.std.specs.Prelude.{◌≡◌, ◌<◌, true, length, IfSome, Decides, ◌≢◌, slice_index_or};
+ghost use Rattle.bucket.specs.Slots.{slot_of};
+ghost use Rattle.bucket.specs.declared.slots.Bucket.{Bucket};
 ghost use Rattle.bucket.specs.Spread.{Allowed};
 ghost use Rattle.table.specs.Finding.{Looks, Finds};
 ghost use Rattle.table.specs.Twins.{SameFind};
@@ -48,16 +50,18 @@ pub fn locate<L: Label, V: Copy>(buckets: &[Bucket<L, V>], label: L) -> (Option<
     if !goes_on(first, second, buckets[first].filter_contains(mask(digest))) {
         return (None, 1);
     }
-    match buckets[second].place(tag, label) {
-        Some(slot) => (
-            Some(Spot {
-                bucket: second,
-                slot,
-            }),
-            2,
-        ),
-        None => (None, 2),
-    }
+    let spot = buckets[second].place(tag, label).map(|slot| Spot {
+        bucket: second,
+        slot,
+    });
+    (spot, 2)
+}
+
+pub(crate) fn payload_at<L: Label, V: Copy>(buckets: &[Bucket<L, V>], spot: Spot) -> V
+    requires { spot.bucket < length buckets.now }
+    ensures { (d : Bucket L V) → result ≡ (slot_of (slice_index_or buckets.now spot.bucket d) spot.slot).payload }
+{
+    buckets[spot.bucket].payload(spot.slot)
 }
 
 // The payload of a label. Over an area of wrong size nothing is read.
@@ -72,14 +76,10 @@ pub fn find<L: Label, V: Copy>(buckets: &[Bucket<L, V>], label: L) -> Found<V>
         };
     }
     let (spot, read) = locate(buckets, label);
-    match spot {
-        Some(x) => Found {
-            payload: Some(buckets[x.bucket].payload(x.slot)),
-            read,
-        },
-        None => Found {
-            payload: None,
-            read,
-        },
-    }
+    // A closure for `map` would hide from the proof what it reads.
+    let payload = match spot {
+        Some(x) => Some(payload_at(buckets, x)),
+        None => None,
+    };
+    Found { payload, read }
 }

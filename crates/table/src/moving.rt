@@ -7,90 +7,69 @@ ghost use Rattle.bucket.specs.declared.slots.Bucket.{Bucket};
 ghost use Rattle.table.specs.Tables.{Sound};
 ghost use Rattle.table.specs.Moving.{vacated, occupied, relocated, Movable, Moves};
 
+use crate::finding::{Spot, payload_at};
 use bucket::{Bucket, Slot, mask, pair, tag};
 use label::Label;
 
-// Frees slot k of bucket i, and answers what it held.
-pub(crate) fn vacate<L: Label, V: Copy>(
-    buckets: &mut [Bucket<L, V>],
-    i: usize,
-    k: usize,
-) -> Slot<L, V>
+// Frees a slot, and answers what it held.
+pub(crate) fn vacate<L: Label, V: Copy>(buckets: &mut [Bucket<L, V>], spot: Spot) -> Slot<L, V>
     requires right { Allowed (length buckets.old) }
-    requires within { i < length buckets.old }
-    ensures slot { (d : Bucket L V) → result ≡ slot_of (slice_index_or buckets.old i d) k }
-    ensures area { buckets.new ≡ vacated L.Label buckets.old (L.Label.number result.label) i k }
+    requires within { spot.bucket < length buckets.old }
+    ensures slot { (d : Bucket L V) → result ≡ slot_of (slice_index_or buckets.old spot.bucket d) spot.slot }
+    ensures area { buckets.new ≡ vacated L.Label buckets.old (L.Label.number result.label) spot.bucket spot.slot }
 {
-    let slot = buckets[i].slot(k);
+    let slot = *buckets[spot.bucket].slot(spot.slot);
     let (first, _) = pair(slot.label.digest(), buckets.len());
-    buckets[i].free(k);
-    if first != i {
+    buckets[spot.bucket].free(spot.slot);
+    if first != spot.bucket {
         buckets[first].move_back();
     }
     slot
 }
 
-// Sets the label and the payload into slot k of bucket i.
-pub fn occupy<L: Label, V: Copy>(
-    buckets: &mut [Bucket<L, V>],
-    i: usize,
-    k: usize,
-    label: L,
-    payload: V,
-)
+// Sets the label and the payload into a slot.
+pub fn occupy<L: Label, V: Copy>(buckets: &mut [Bucket<L, V>], spot: Spot, label: L, payload: V)
     requires right { Allowed (length buckets.old) }
-    requires within { i < length buckets.old }
-    ensures { buckets.new ≡ occupied L.Label buckets.old (L.Label.number label) i k label payload }
+    requires within { spot.bucket < length buckets.old }
+    ensures { buckets.new ≡ occupied L.Label buckets.old (L.Label.number label) spot.bucket spot.slot label payload }
 {
     let digest = label.digest();
     let (first, _) = pair(digest, buckets.len());
-    buckets[i].fill(k, Slot::holding(tag(digest), label, payload));
-    if first != i {
+    buckets[spot.bucket].fill(spot.slot, Slot::holding(tag(digest), label, payload));
+    if first != spot.bucket {
         buckets[first].move_out(mask(digest));
     }
 }
 
-// What slot j of bucket a holds goes into slot k of bucket b; answers what moved.
-fn hop<L: Label, V: Copy>(
-    buckets: &mut [Bucket<L, V>],
-    a: usize,
-    j: usize,
-    b: usize,
-    k: usize,
-) -> Slot<L, V>
+// What the one slot holds goes into the other; answers what moved.
+fn hop<L: Label, V: Copy>(buckets: &mut [Bucket<L, V>], from: Spot, to: Spot) -> Slot<L, V>
     requires right { Allowed (length buckets.old) }
-    requires within { (a < length buckets.old) × (b < length buckets.old) }
-    ensures slot { (d : Bucket L V) → result ≡ slot_of (slice_index_or buckets.old a d) j }
-    ensures area { buckets.new ≡ occupied L.Label (vacated L.Label buckets.old (L.Label.number result.label) a j) (L.Label.number result.label) b k result.label result.payload }
+    requires within { (from.bucket < length buckets.old) × (to.bucket < length buckets.old) }
+    ensures slot { (d : Bucket L V) → result ≡ slot_of (slice_index_or buckets.old from.bucket d) from.slot }
+    ensures area { buckets.new ≡ occupied L.Label (vacated L.Label buckets.old (L.Label.number result.label) from.bucket from.slot) (L.Label.number result.label) to.bucket to.slot result.label result.payload }
 {
-    let slot = vacate(buckets, a, j);
-    occupy(buckets, b, k, slot.label, slot.payload);
+    let slot = vacate(buckets, from);
+    occupy(buckets, to, slot.label, slot.payload);
     slot
 }
 
-// One move: the label of slot j of bucket a goes into slot k of bucket b. A host may read between moves: each leaves every find's payload as it was.
-pub fn relocate<L: Label, V: Copy>(
-    buckets: &mut [Bucket<L, V>],
-    a: usize,
-    j: usize,
-    b: usize,
-    k: usize,
-)
+// One move: the label of the one slot goes into the other. A host may read between moves: each leaves every find's payload as it was.
+pub fn relocate<L: Label, V: Copy>(buckets: &mut [Bucket<L, V>], from: Spot, to: Spot)
     requires right { Allowed (length buckets.old) }
-    requires within { (a < length buckets.old) × (b < length buckets.old) }
-    ensures area { buckets.new ≡ relocated L.Label buckets.old a j b k }
-    ensures finds { Movable L.Label buckets.old a j b k → Sound L.Label buckets.old → Moves L.Label buckets.old buckets.new }
+    requires within { (from.bucket < length buckets.old) × (to.bucket < length buckets.old) }
+    ensures area { buckets.new ≡ relocated L.Label buckets.old from.bucket from.slot to.bucket to.slot }
+    ensures finds { Movable L.Label buckets.old from.bucket from.slot to.bucket to.slot → Sound L.Label buckets.old → Moves L.Label buckets.old buckets.new }
 {
-    hop(buckets, a, j, b, k);
+    hop(buckets, from, to);
 }
 
-// Replaces the payload of slot k of bucket i, and answers the old one.
-pub fn repay<L: Label, V: Copy>(buckets: &mut [Bucket<L, V>], i: usize, k: usize, payload: V) -> V
-    requires { i < length buckets.old }
-    ensures old { (d : Bucket L V) → result ≡ (slot_of (slice_index_or buckets.old i d) k).payload }
-    ensures area { buckets.new ≡ modify (repaid k payload) buckets.old i }
+// Replaces the payload of a slot, and answers the old one.
+pub fn repay<L: Label, V: Copy>(buckets: &mut [Bucket<L, V>], spot: Spot, payload: V) -> V
+    requires { spot.bucket < length buckets.old }
+    ensures old { (d : Bucket L V) → result ≡ (slot_of (slice_index_or buckets.old spot.bucket d) spot.slot).payload }
+    ensures area { buckets.new ≡ modify (repaid spot.slot payload) buckets.old spot.bucket }
 {
-    let old = buckets[i].payload(k);
-    buckets[i].repay(k, payload);
+    let old = payload_at(buckets, spot);
+    buckets[spot.bucket].repay(spot.slot, payload);
     old
 }

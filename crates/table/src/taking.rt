@@ -1,4 +1,4 @@
-// Taking a label out of the table.
+// Taking a label out of the table, that is of bare buckets, as put takes them: well kept is a premise here and an invariant only in the map above.
 ghost use Rattle.table.specs.Tables.{live, WellKept};
 ghost use Rattle.table.specs.Moving.{Takes};
 
@@ -15,11 +15,5 @@ pub fn take<L: Label, V: Copy>(buckets: &mut [Bucket<L, V>], label: L) -> Option
         return None;
     }
     let (spot, _) = locate(buckets, label);
-    match spot {
-        Some(x) => {
-            let slot = vacate(buckets, x.bucket, x.slot);
-            Some(slot.payload)
-        }
-        None => None,
-    }
+    Some(vacate(buckets, spot?).payload)
 }

@@ -1,6 +1,5 @@
 -- A field that decodes is a call's own field, and a call's own field decodes to it.
-use Rattle.std.proofs.Common.{◌≡◌, ℕ, ◌+◌, ◌*◌, ◌/◌, ◌%◌, ◌<◌, eqb, List, [], ◌∷◌, length, get_or, Ok, Err, Result, sym, refl, ap, ◌∙◌, arith}
-use native.Mathlib.Nat.{div-div-eq-div-mul}
+use Rattle.std.proofs.Common.{◌≡◌, ℕ, ◌/◌, ◌%◌, ◌<◌, eqb, List, [], ◌∷◌, length, get_or, Ok, Err, Result, sym, refl, ap, ◌∙◌, arith}
 use Rattle.std.proofs.lemmas.Bool.{cond_both, eqb-true, eqb-false}
 use Rattle.refusal.specs.declared.Refusal.{Refusal}
 use Rattle.refusal.specs.declared.Refusal.TheVariants.{WrongFieldLength}
@@ -8,20 +7,9 @@ use Rattle.tape.specs.declared.calls.Call.{Call}
 use Rattle.tape.specs.declared.calls.Call.TheVariants.{Write, Drop, Spoil, Read, Trim, Tally}
 use Rattle.tape.specs.Calls.{four, bytes_of, tag_of, contents_of, number_in, making, bare, decoded, Small, Decodes, call, unknown, wrong, OwnField}
 
-parts : (n : ℕ) → n ≡ 256 * (n / 256) + n % 256
-parts n = omega arith
-
-linear : (n x y z d c b a : ℕ) → n ≡ 256 * x + d → x ≡ 256 * y + c → y ≡ 256 * z + b → z ≡ a → four a b c d ≡ n
-linear n x y z d c b a e f g h = omega arith
-
 -- the four bytes of a number are the number
 four_bytes : (n : ℕ) → n < 4294967296 → four ((n / 16777216) % 256) ((n / 65536) % 256) ((n / 256) % 256) (n % 256) ≡ n
-four_bytes n h =
-    let p : (n / 256) / 256 ≡ n / 65536 = div-div-eq-div-mul n 256 256 in
-    let q : (n / 65536) / 256 ≡ n / 16777216 = div-div-eq-div-mul n 65536 256 in
-    let z : n / 16777216 ≡ (n / 16777216) % 256 = omega arith in
-    linear n (n / 256) (n / 65536) (n / 16777216) (n % 256) ((n / 256) % 256) ((n / 65536) % 256) ((n / 16777216) % 256)
-    (parts n) (rw p at (parts (n / 256))) (rw q at (parts (n / 65536))) z
+four_bytes n h = omega arith
 
 pub own_field : OwnField
 own_field (Write n) h = ap (λ (k : ℕ). Ok (Write k)) (four_bytes n h)

@@ -1,7 +1,7 @@
 -- A tape of bytes that says calls and no fault is the one that is written from those calls.
-use Rattle.std.proofs.Common.{◌≡◌, ℕ, ◌+◌, ◌*◌, ◌/◌, ◌%◌, ◌<◌, ◌≤◌, List, [], ◌∷◌, ◌++◌, length, get_or, take, drop, Ok, Err, Result, sym, refl, ap, ◌∙◌, inl, inr, ⊎_elim, arith, length-drop, take-append-drop, length-take}
+use Rattle.std.proofs.Common.{◌≡◌, ℕ, ◌+◌, ◌*◌, ◌/◌, ◌%◌, ◌<◌, ◌≤◌, List, [], ◌∷◌, ◌++◌, length, get_or, take, drop, Ok, Err, Result, sym, refl, ap, ◌∙◌, inl, inr, arith, length-drop, take-append-drop}
 use Rattle.std.proofs.lemmas.List.{get_or-take, get_or-drop, get_or_past, length-take-le, drop_all, drop_more, drop-drop}
-use Rattle.std.proofs.lemmas.Bool.{cases_lt}
+use Rattle.std.proofs.lemmas.Grind.{common_steps}
 use Rattle.refusal.specs.declared.Refusal.{Refusal}
 use Rattle.refusal.specs.declared.Refusal.TheVariants.{FieldCutShort, TapeTooLong}
 use Rattle.tape.specs.declared.calls.Call.{Call}
@@ -15,22 +15,13 @@ use Rattle.tape.proofs.Decoding.{decodes}
 abbrev Bytes : List ℕ → Type 0
 Bytes T = (j : ℕ) → get_or T j 0 < 256
 
-no_fault : (e : Refusal) (c : Call) → ◌≡◌ {A = Result Call Refusal} (Err e) (Ok c) → ⊥
-no_fault e c p = let z : ◌≡◌ {A = ℕ} 0 1 = cc in omega arith
-
 own_of : (t : ℕ) (xs : List ℕ) (o : Result Call Refusal) (c : Call) → Decodes t xs o → o ≡ Ok c → (t ≡ tag_of c) × (xs ≡ contents_of c)
 own_of t xs o c (call d s p q) e = let g : d ≡ c = cc in (p ∙ ap tag_of g, q ∙ ap contents_of g)
-own_of t xs o c (unknown n) e = absurd (no_fault _ c e)
-own_of t xs o c (wrong d p n) e = absurd (no_fault _ c e)
+own_of t xs o c (unknown n) e = absurd cc
+own_of t xs o c (wrong d p n) e = absurd cc
 
 bytes_part : (T : List ℕ) (n i : ℕ) → Bytes T → Bytes (take n (drop i T))
-bytes_part T n i h j =
-    ⊎_elim {A = j < n} {B = n ≤ j} (λ l. rw (get_or-take n (drop i T) j 0 l, get_or-drop i T j 0) (h (i + j)))
-    (λ l. rw (get_or_past (take n (drop i T)) j 0 (short_part j l)) (omega arith))
-    (cases_lt j n)
-  where
-    short_part : (j : ℕ) → n ≤ j → length (take n (drop i T)) ≤ j
-    short_part j l = rw length-take (omega arith)
+bytes_part T n i h j = grind (arith, common_steps, get_or-take, get_or_past, get_or-drop)
 
 -- the field at p, and what stands behind it
 cut_up : (T : List ℕ) (p : ℕ) → Whole T p
@@ -49,36 +40,27 @@ abbrev first_outcome : List Reading → Result Call Refusal
 first_outcome [] = Err FieldCutShort
 first_outcome (r ∷ rs) = r.outcome
 
-abbrev but_first : List Reading → List Reading
-but_first [] = []
-but_first (r ∷ rs) = rs
-
-not_nil : (r : Reading) (rs : List Reading) → ◌≡◌ {A = List Reading} [] (r ∷ rs) → ⊥
-not_nil r rs e = let z : ◌≡◌ {A = ℕ} 0 1 = cc in omega arith
-
 back : (T : List ℕ) (p : ℕ) (rs : List Reading) (cs : List Call) → Bytes T → Reads T p rs → rs ≡ placed p cs → drop p T ≡ written cs
 back T p rs [] h (end _ l) e = drop_all p T l
-back T p rs [] h (short _ d) e = absurd (not_nil _ _ (sym e))
-back T p rs [] h (field _ ss w k) e = absurd (not_nil _ _ (sym e))
-back T p rs (c ∷ cs) h (end _ l) e = absurd (not_nil _ _ e)
-back T p rs (c ∷ cs) h (short _ d) e = absurd (no_fault _ c (ap first_outcome e))
+back T p rs [] h (short _ d) e = absurd cc
+back T p rs [] h (field _ ss w k) e = absurd cc
+back T p rs (c ∷ cs) h (end _ l) e = absurd cc
+back T p rs (c ∷ cs) h (short _ d) e = let o = ap first_outcome e in absurd cc
 back T p rs (c ∷ cs) h (field _ ss w k) e =
     let o = own_of (tag_at T p) (contents_at T p) _ c (decodes (tag_at T p) (contents_at T p) (bytes_part T (size_at T p) (p + 3) h)) (ap first_outcome e) in
     let l : size_at T p ≤ length (drop (p + 3) T) = rw length-drop (omega arith) in
     let n : size_at T p ≡ length (contents_of c) = sym (length-take-le (size_at T p) (drop (p + 3) T) l) ∙ ap length o.1 in
-    let f : ss ≡ placed (behind T p) cs = ap but_first e ∙ ap (λ m. placed (p + 3 + m) cs) (sym n) in
+    let f : ss ≡ placed (behind T p) cs = cc in
     let r = back T (behind T p) ss cs h k f in
-    let d = digits (get_or T (p + 1) 0) (get_or T (p + 2) 0) (length (contents_of c)) (h (p + 1)) (h (p + 2)) n in
-    joined_up _ _ _ _ _ _ _ _ _ _ o.0 d.0 d.1 o.1 r (cut_up T p w)
-  where
-    joined_up : (t a b t' a' b' : ℕ) (xs ys rest more : List ℕ) {all : List ℕ} → t ≡ t' → a ≡ a' → b ≡ b' → xs ≡ ys → rest ≡ more
-        → all ≡ t ∷ a ∷ b ∷ (xs ++ rest) → all ≡ t' ∷ a' ∷ b' ∷ (ys ++ more)
-    joined_up t a b t' a' b' xs ys rest more u v w x y z = cc
+    let (d, d') = digits (get_or T (p + 1) 0) (get_or T (p + 2) 0) (length (contents_of c)) (h (p + 1)) (h (p + 2)) n in
+    let (t, xs) = o in
+    let w' = cut_up T p w in
+    cc
 
 pub only_written : OnlyWritten
 only_written T cs h (inl (l, e)) = absurd (too_long cs e)
   where
     too_long : (cs : List Call) → placed 0 cs ≡ (record { place = 0; outcome = Err TapeTooLong } ∷ []) → ⊥
-    too_long [] e = not_nil _ _ e
-    too_long (c ∷ cs) e = no_fault _ c (sym (ap first_outcome e))
+    too_long [] e = cc
+    too_long (c ∷ cs) e = let o = ap first_outcome e in cc
 only_written T cs h (inr (l, e)) = back T 0 (placed 0 cs) cs h e refl

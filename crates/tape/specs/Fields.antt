@@ -4,9 +4,11 @@
 --   Whole T p         all of it stands on the tape
 --   Cut T p           it begins on the tape, and the tape ends inside it
 --   Opened T r        what opening T answers
+--   First L p r       the bytes L, which stand at the place p, begin with the field r
 --   Taken T p r q     taking the field at p answers r, and goes on at q
 --   Next T p r q      the same of what the field says
 --   Further T p r q   a reading leads on, and stays within the tape
+--   Gives s r t       the reader s gives the reading r, and is then t
 -- Assumes nothing; a byte past the tape's end counts as 0.
 use Rattle.std.specs.Prelude.{◌≡◌, ℕ, ◌+◌, ◌*◌, ◌<◌, ◌≤◌, ◌⊎◌, List, length, take, drop, Some, None, Ok, Err, Option, Result, slice_index}
 use Rattle.refusal.specs.declared.Refusal.TheVariants.{FieldCutShort, TapeTooLong}
@@ -39,6 +41,10 @@ abbrev pub Opened : List ℕ → Result Reader Fault → Type 0
 Opened T (Ok r) = (length T ≤ 65535) × (r.tape.now ≡ T) × (r.place ≡ 0)
 Opened T (Err f) = (65535 < length T) × (f ≡ record { place = 0; refusal = TapeTooLong })
 
+abbrev pub First : List ℕ → ℕ → Option Field → Type 0
+First L p None = length L < behind L 0
+First L p (Some f) = Whole L 0 × (f.place ≡ p) × (f.tag ≡ tag_at L 0) × (f.contents.now ≡ contents_at L 0)
+
 -- behind a field that is cut short nothing is left
 abbrev pub Taken : List ℕ → ℕ → Option (Result Field Fault) → ℕ → Type 0
 Taken T p None q = (length T ≤ p) × (q ≡ p)
@@ -54,3 +60,6 @@ Next T p (Some r) q =
 abbrev pub Further : List ℕ → ℕ → Option Reading → ℕ → Type 0
 Further T p None q = (length T ≤ p) × (q ≡ p)
 Further T p (Some r) q = (p < q) × (q ≤ length T) × (r.place ≡ p)
+
+abbrev pub Gives : Reader → Option Reading → Reader → Type 0
+Gives s r t = (t.tape.now ≡ s.tape.now) × Next s.tape.now s.place r t.place

@@ -1,6 +1,7 @@
 // A reader that goes over a tape field by field.
-ghost use Rattle.std.specs.Prelude.{◌≡◌};
-ghost use Rattle.tape.specs.Fields.{Opened, Taken, Next, Further};
+ghost use Rattle.std.specs.Prelude.{◌≡◌, ◌-◌, length, Err};
+ghost use Rattle.std.specs.Iterator.{at_most};
+ghost use Rattle.tape.specs.Fields.{Opened, First, Taken, Next, Further, Gives};
 
 use crate::calls::{Call, decode};
 use crate::faults::Fault;
@@ -10,7 +11,7 @@ use refusal::Refusal;
 const LIMIT: usize = 65_535;
 
 // A whole field; its contents are a part of the tape.
-#[derive(Clone, Copy)]
+#[derive(Clone, Copy, PartialEq, Eq, Debug)]
 pub struct Field<'a> {
     pub place: usize,
     pub tag: u8,
@@ -29,6 +30,32 @@ pub struct Reading {
 pub struct Reader<'a> {
     tape: &'a [u8],
     place: usize,
+}
+
+impl From<Fault> for Reading {
+    ghost from_gives = { λ f r. r ≡ record { place = f.place; outcome = Err f.refusal } };
+
+    fn from(fault: Fault) -> Reading {
+        Reading {
+            place: fault.place,
+            outcome: Err(fault.refusal),
+        }
+    }
+}
+
+// The field at the start of these bytes, or `None` where they end inside it.
+fn first_field(place: usize, left: &[u8]) -> Option<Field>
+    ensures { First left.now place result }
+{
+    let [tag, high, low, others @ ..] = left else {
+        return None;
+    };
+    let size = u16::from_be_bytes([*high, *low]);
+    Some(Field {
+        place,
+        tag: *tag,
+        contents: others.get(..usize::from(size))?,
+    })
 }
 
 impl<'a> Reader<'a> {
@@ -50,35 +77,20 @@ impl<'a> Reader<'a> {
         ensures tape { self.new.tape.now ≡ self.old.tape.now }
         ensures step { Taken self.old.tape.now self.old.place result self.new.place }
     {
-        let tape = self.tape;
         let place = self.place;
-        if place >= tape.len() {
+        let left = self.tape.get(place..)?;
+        if left.is_empty() {
             return None;
         }
-        let left = tape.len() - place;
-        if left < 3 {
-            self.place = tape.len();
+        let Some(field) = first_field(place, left) else {
+            self.place = self.tape.len();
             return Some(Err(Fault {
                 place,
                 refusal: Refusal::FieldCutShort,
             }));
-        }
-        let size = usize::from(u16::from_be_bytes([tape[place + 1], tape[place + 2]]));
-        if left - 3 < size {
-            self.place = tape.len();
-            return Some(Err(Fault {
-                place,
-                refusal: Refusal::FieldCutShort,
-            }));
-        }
-        let tag = tape[place];
-        let contents = &tape[place + 3..place + 3 + size];
-        self.place = place + 3 + size;
-        Some(Ok(Field {
-            place,
-            tag,
-            contents,
-        }))
+        };
+        self.place += 3 + field.contents.len();
+        Some(Ok(field))
     }
 
     // The call or the fault of the next field, or `None` behind the last.
@@ -87,16 +99,24 @@ impl<'a> Reader<'a> {
         ensures step { Next self.old.tape.now self.old.place result self.new.place }
         ensures further { Further self.old.tape.now self.old.place result self.new.place }
     {
-        match self.next_field() {
-            Some(Ok(field)) => Some(Reading {
+        Some(match self.next_field()? {
+            Ok(field) => Reading {
                 place: field.place,
                 outcome: decode(field.tag, field.contents),
-            }),
-            Some(Err(fault)) => Some(Reading {
-                place: fault.place,
-                outcome: Err(fault.refusal),
-            }),
-            None => None,
-        }
+            },
+            Err(fault) => fault.into(),
+        })
+    }
+}
+
+impl<'a> Iterator for Reader<'a> {
+    type Item = Reading;
+
+    ghost next_gives = { Gives };
+
+    ghost remaining = { λ s. at_most (length s.tape.now - s.place) };
+
+    fn next(&mut self) -> Option<Reading> {
+        self.next_call()
     }
 }

@@ -52,7 +52,7 @@ fn each_call(rt: HostRuntime) -> Result<(), Fail> {
 
 #[test]
 fn a_wrong_length(rt: HostRuntime) -> Result<(), Fail> {
-    for tag in 1..6 {
+    for tag in 1..=5 {
         says(
             &rt,
             &[tag, 0, 3, 0, 0, 0],
@@ -134,6 +134,16 @@ fn a_field_lends_its_contents() -> Result<(), Fail> {
     check_eq(field.contents, &tape[3..5])?;
     check_eq(reader.next_call(), Some(refused(5, Refusal::FieldCutShort)))?;
     check(reader.next_field().is_none())
+}
+
+#[test]
+fn a_reader_gives_each_reading() -> Result<(), Fail> {
+    let tape = [9, 0, 0, 8, 0, 0, 9];
+    let reader = Reader::new(&tape)?;
+    let mut faults = reader.filter(|reading| reading.outcome.is_err());
+    check_eq(faults.next(), Some(refused(3, Refusal::UnknownTag)))?;
+    check_eq(faults.next(), Some(refused(6, Refusal::FieldCutShort)))?;
+    check_eq(faults.next(), None)
 }
 
 #[test]

@@ -8,12 +8,11 @@ use Rattle.bench_card.proofs.list_tape.Goals as goal
 
 pub returns : goal.returns
 returns c =
-    let makes = c.new-service.ensures.makes c.new-entries.ensures.kept c.new-streams.ensures.kept in
+    let makes = c.new-service.ensures.makes in
     let areas = c.new-service.ensures.areas in
-    let bound = areas.limit ∙ c.bound.ensures in
     let entries = makes.entries.fit ∙ c.new-entries.ensures.shape.0 (omega arith, omega arith) in
     let streams = makes.streams.fit ∙ c.new-streams.ensures.shape.0 (omega arith, omega arith) in
     IfOk-weaker _ _ _
-    (λ v. listed _ _ _ _ _ _ (makes.fresh (omega arith, omega arith, refl, omega (arith, c.bound.ensures)) (c.new-entries.ensures.empty, c.new-streams.ensures.empty))
-    (λ i. limits (areas.places i) (bound i) (AtMost (entries i)) (AtMost (streams i))))
+    (λ v. listed _ _ _ _ _ _ (makes.fresh (omega arith, omega arith, refl, omega arith) (c.new-entries.ensures.empty, c.new-streams.ensures.empty))
+    (λ i. limits (areas.places i) (areas.limit i) (AtMost (entries i)) (AtMost (streams i))))
     c.play.ensures

@@ -15,61 +15,54 @@ impl<'a, L: BlockNumber, B: Map<L, Entry>, S: Map<StreamLabel, Position>> Blocks
     // Grants the front waiting block to the number n.
     pub fn begin(&mut self, n: u32) -> Result<Grant, Refusal>
         ensures step { Goes B.Map S.Map self.old (began n) (begun result) self.new }
-        ensures leaves { B.Map.kept self.old.entries → Begins B.Map S.Map self.old n result self.new }
+        ensures leaves { Begins B.Map S.Map self.old n result self.new }
         ensures faulty { Faulty B.Map S.Map self.old (begun result) self.new }
     {
-        match self.give(n) {
-            Ok(block) => Ok(Grant {
-                number: n,
-                block,
-                spent: false,
-            }),
-            Err(e) => Err(e),
-        }
+        let block = self.give(n)?;
+        Ok(Grant {
+            number: n,
+            block,
+            spent: false,
+        })
     }
 
     // Sends the front block out at the number n.
     pub(crate) fn give(&mut self, n: u32) -> Result<u32, Refusal>
         ensures step { Goes B.Map S.Map self.old (began n) (given n result) self.new }
-        ensures leaves { B.Map.kept self.old.entries → Gives B.Map S.Map self.old n result self.new }
+        ensures leaves { Gives B.Map S.Map self.old n result self.new }
         ensures faulty { Faulty B.Map S.Map self.old (given n result) self.new }
     {
-        if let Some(e) = self.fault {
-            return Err(e);
-        }
-        if n >= self.limit {
-            return Err(Refusal::NumberTooLarge);
-        }
-        let label = L::of(n);
+        self.sound()?;
+        self.allows(n)?;
+        let label = L::from(n);
         let entry = self.entries.find(label);
         let front = self.pool.front();
-        let Some(turn) = advance(entry, Event::Begin(front.unwrap_or(0))) else {
-            return Err(Refusal::NumberBusy);
-        };
-        let Some(b) = front else {
-            return Err(Refusal::NoBlockWaiting);
-        };
-        if !store(&mut self.entries, label, turn.entry) {
-            return Err(Refusal::BlockMapFull);
-        }
+        // The match of entry and event tells a busy number, whatever the block, so 0 stands in where none waits.
+        let event = Event::Begin(front.unwrap_or(0));
+        let turn = advance(entry, event).ok_or(Refusal::NumberBusy)?;
+        let b = front.ok_or(Refusal::NoBlockWaiting)?;
+        store(&mut self.entries, label, turn.entry).map_err(|Denied::Full| Refusal::BlockMapFull)?;
         let _ = self.pool.pop_front();
         self.out = self.out.saturating_add(1);
         Ok(b)
     }
 }
 
-// Gives the label the entry, or none; false where it does not fit.
-pub(crate) fn store<L: Label, B: Map<L, Entry>>(map: &mut B, label: L, entry: Option<Entry>) -> bool
-    ensures { B.Map.kept map.old → Stores B.Map map.old (L.Label.number label) entry result map.new }
+// Gives the label the entry, or none.
+pub(crate) fn store<L: Label, B: Map<L, Entry>>(
+    map: &mut B,
+    label: L,
+    entry: Option<Entry>,
+) -> Result<(), Denied>
+    ensures { Stores B.Map map.old (L.Label.number label) entry result map.new }
 {
     match entry {
-        Some(e) => match map.put(label, e) {
-            Ok(_) => true,
-            Err(Denied::Full) => false,
-        },
+        Some(e) => {
+            map.put(label, e)?;
+        }
         None => {
-            let _ = map.take(label);
-            true
+            map.take(label);
         }
     }
+    Ok(())
 }

@@ -1,22 +1,19 @@
 -- The ending of the grant just given is accepted.
-use Rattle.std.proofs.Common.{Ok, ap, true≢false}
-use Rattle.rules.specs.History.{accepted}
-use Rattle.host.specs.Program.{ending_of}
-use Rattle.host.proofs.Held.{held_passed, held_ended}
+use Rattle.std.proofs.Common.{◌≡◌, Ok, subst, rules}
+use Rattle.blocks.specs.Service.{Goes, Begins, begun}
+use Rattle.rules.specs.Calls.Call.{begin}
+use Rattle.host.proofs.Held.{held_programs}
 use Rattle.host.proofs.program.Goals as goal
 
-pub returns-in-Ok-settle : goal.returns-in-Ok-settle
-returns-in-Ok-settle g c = record {
-  step = λ h lived.
-      let begun = c.in-Ok.ensures in
-      held_passed g.B.Map g.S.Map _ _ (ending_of c.args.took) c.args.n c.in-Ok.grant (begun.leaves lived.blocks_kept).0 h (begun.step h lived) (Ok c.in-Ok-settle.block) c.in-Ok-settle.ensures.step;
-  faulty = λ e f. let no = (c.in-Ok.ensures.faulty e f).0 in absurd (true≢false (ap accepted no));
-}
+pub returns-clause-step : goal.returns-clause-step
+returns-clause-step g c =
+    let grant = c.in_ok-grant.grant in
+    let s = c.args.service.now in
+    let n = c.args.n in
+    let was : c.begin.result ≡ Ok grant = search rules in
+    let begins = subst (λ r. Begins g.B.Map g.S.Map s n r c.begin.new.self) was c.begin.ensures.leaves in
+    let goes = subst (λ r. Goes g.B.Map g.S.Map s (begin n) (begun r) c.begin.new.self) was c.begin.ensures.step in
+    λ h lived. held_programs g.B.Map g.S.Map _ _ c.args.took n grant begins.0 h (goes h lived) c.settle.result c.map_err-2.result _ c.map_err-2.ensures.cases c.settle.ensures.step
 
-pub returns-in-Err-settle : goal.returns-in-Err-settle
-returns-in-Err-settle g c = record {
-  step = λ h lived.
-      let begun = c.in-Ok.ensures in
-      absurd (held_ended g.B.Map g.S.Map _ _ (ending_of c.args.took) c.args.n c.in-Ok.grant (begun.leaves lived.blocks_kept).0 h (begun.step h lived) _ c.in-Err-settle.ensures.step);
-  faulty = λ e f. let no = (c.in-Ok.ensures.faulty e f).0 in absurd (true≢false (ap accepted no));
-}
+pub returns-in_err-grant-clause-faulty : goal.returns-in_err-grant-clause-faulty
+returns-in_err-grant-clause-faulty g c = λ e f. let told = c.begin.ensures.faulty e f in (search rules, told.1)

@@ -1,16 +1,8 @@
 // Which cells the values of a ring stand in.
-ghost use Rattle.std.specs.Prelude.{◌≡◌, ◌+◌, ◌-◌, ◌<◌, min, length, slice_index_or};
+ghost use Rattle.std.specs.Prelude.{◌≡◌, ◌<◌, length};
 ghost use Rattle.ring.specs.Queue.{items, places, start, back};
 
 use super::Ring;
-
-// The value in a cell.
-pub(super) fn value<T: Copy>(cells: &[T], at: usize) -> T
-    requires { at < length cells.now }
-    ensures { result ≡ slice_index_or cells.now at result }
-{
-    cells[at]
-}
 
 impl<'a, T: Copy> Ring<'a, T> {
     // A ring over the cells whose values stand in the first `count`.
@@ -22,13 +14,6 @@ impl<'a, T: Copy> Ring<'a, T> {
             head: 0,
             count,
         }
-    }
-
-    // How many cells are taken.
-    pub(super) fn taken(&self) -> usize
-        ensures { result ≡ min self.now.count (places self.now) }
-    {
-        self.count.min(self.cells.len())
     }
 
     // The cell of the front value, or where it would stand.
@@ -55,14 +40,5 @@ impl<'a, T: Copy> Ring<'a, T> {
         } else {
             count - room
         }
-    }
-
-    // Moves the front behind the cell `at`, so that `left` values wait.
-    pub(super) fn pass(&mut self, at: usize, left: usize)
-        requires { at < places self.old }
-        ensures { self.new ≡ record { cells = self.old.cells; head = at + 1; count = left } }
-    {
-        self.head = at + 1;
-        self.count = left;
     }
 }

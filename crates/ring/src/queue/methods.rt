@@ -4,7 +4,6 @@ ghost use Rattle.std.specs.List.{slice_get};
 ghost use Rattle.ring.specs.Queue.{items, places, Empty, Full, Pushes, Pops};
 
 use super::Ring;
-use super::cells::value;
 
 impl<'a, T: Copy> Ring<'a, T> {
     // An empty queue over the cells.
@@ -27,7 +26,7 @@ impl<'a, T: Copy> Ring<'a, T> {
         ensures count { result ≡ length (items self.now) }
         ensures bound { result ≤ places self.now }
     {
-        self.taken()
+        self.count.min(self.cells.len())
     }
 
     // How many values there is room for, counting those that wait.
@@ -44,36 +43,35 @@ impl<'a, T: Copy> Ring<'a, T> {
         if self.len() == 0 {
             return None;
         }
-        Some(value(self.cells, self.front_cell()))
+        let at = self.front_cell();
+        Some(self.cells[at])
     }
 
-    // Puts x at the back; false, and nothing changed, where every cell is taken.
-    pub fn push_back(&mut self, x: T) -> bool
+    // Puts x at the back; where every cell is taken, x comes back and nothing changed.
+    pub fn push_back(&mut self, x: T) -> Result<(), T>
         ensures { Pushes self.old x result self.new }
     {
         let count = self.len();
         if count >= self.capacity() {
-            return false;
+            return Err(x);
         }
         let head = self.front_cell();
         let at = self.back_cell();
         self.cells[at] = x;
         self.head = head;
         self.count = count + 1;
-        true
+        Ok(())
     }
 
     // Takes the value at the front; `None`, and nothing changed, where none waits.
     pub fn pop_front(&mut self) -> Option<T>
         ensures { Pops self.old result self.new }
     {
-        let count = self.len();
-        if count == 0 {
-            return None;
-        }
+        let x = self.front()?;
         let at = self.front_cell();
-        let x = self.cells[at];
-        self.pass(at, count - 1);
+        let count = self.len();
+        self.head = at + 1;
+        self.count = count - 1;
         Some(x)
     }
 }

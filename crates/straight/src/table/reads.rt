@@ -2,7 +2,6 @@
 ghost use Rattle.std.specs.Prelude.{◌≡◌};
 ghost use Rattle.straight.specs.Rows.{live, look, busy, ask_answer};
 
-use crate::rows::{MOST_ROWS, seek, tally, vacant};
 use crate::table::StraightMap;
 use label::Label;
 
@@ -11,38 +10,25 @@ impl<'a, L: Label, V: Copy> StraightMap<'a, L, V> {
     pub fn find(&self, label: L) -> Option<V>
         ensures { result ≡ look L.Label.number (live self.now.rows.now) (L.Label.number label) }
     {
-        let rows = &*self.rows;
-        if rows.len() > MOST_ROWS {
-            return None;
-        }
-        let i = seek(rows, label);
-        if i < rows.len() {
-            Some(rows[i].payload)
-        } else {
-            None
-        }
+        self.live()
+            .iter()
+            .find(|row| row.holds(label))
+            .map(|row| row.payload)
     }
 
     // Whether the label is held or a row is unused.
     pub fn ask(&self, label: L) -> bool
         ensures { result ≡ ask_answer L.Label.number (L.Label.number label) (live self.now.rows.now) }
     {
-        let rows = &*self.rows;
-        if rows.len() > MOST_ROWS {
-            return false;
-        }
-        seek(rows, label) < rows.len() || vacant(rows) < rows.len()
+        self.live()
+            .iter()
+            .any(|row| !row.used || row.label.same(label))
     }
 
     // The number of labels held.
     pub fn count(&self) -> usize
         ensures { result ≡ busy (live self.now.rows.now) }
     {
-        let rows = &*self.rows;
-        if rows.len() > MOST_ROWS {
-            0
-        } else {
-            tally(rows)
-        }
+        self.live().iter().filter(|row| row.used).count()
     }
 }

@@ -3,11 +3,8 @@ use Rattle.search.proofs.OneList.{one_trail}
 use Rattle.insertion.proofs.Same.{alike_put}
 use Rattle.insertion.proofs.storing.put.Goals as goal
 
-pub returns : goal.returns
-returns g c =
-    let bs = c.args.buckets.now in
-    record {
-      put = c.store.ensures;
-      one = one_trail g.L.Label bs;
-      alike = alike_put g.L.Label bs c.args.label c.args.payload c.store.new.buckets c.store.result c.store.ensures;
-    }
+pub returns-clause-one : goal.returns-clause-one
+returns-clause-one g c = one_trail g.L.Label c.args.buckets.now
+
+pub returns-clause-alike : goal.returns-clause-alike
+returns-clause-alike g c = alike_put g.L.Label c.args.buckets.now c.args.label c.args.payload c.store.new.buckets c.store.result c.store.ensures

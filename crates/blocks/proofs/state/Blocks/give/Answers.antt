@@ -1,58 +1,31 @@
--- The refusals behind the find, and the grant.
-use Rattle.std.proofs.Common.{◌≡◌, rules}
-use Rattle.refusal.specs.declared.Refusal.TheVariants.{NoBlockWaiting, BlockMapFull}
-use Rattle.rules.specs.Calls.Call.{begin}
-use Rattle.blocks.proofs.Lives.{refused_lives}
-use Rattle.blocks.proofs.Giving.{sent_out, no_block_waiting, map_full, given_lives}
+-- The refusal where no block waits, and the grant.
+use Rattle.std.proofs.Common.{◌≡◌, Ok, Err, sym, ◌∙◌, subst, rules}
+use Rattle.refusal.specs.declared.Refusal.TheVariants.{NoBlockWaiting}
+use Rattle.entry.specs.declared.Event.TheVariants.{Begin}
+use Rattle.entry.specs.Turns.{Turns}
+use Rattle.blocks.proofs.Giving.{sent_out, no_block_waiting, gives_goes}
 use Rattle.blocks.proofs.state.Blocks.give.Goals as goal
 
-pub returns-in_default-front : goal.returns-in_default-front
-returns-in_default-front g c =
-    let s = c.args.self.now in
-    let bm = g.B.Map in
-    let sm = g.S.Map in
+pub returns-in_err-b-clause-leaves : goal.returns-in_err-b-clause-leaves
+returns-in_err-b-clause-leaves g c =
     let n = c.args.n in
-    record {
-      step = λ h lived. refused_lives bm sm h s _ (begin n) lived NoBlockWaiting
-          (no_block_waiting bm sm s n _ c.of-label.ensures _ _ (c.find-entry.ensures lived.blocks_kept) c.if-n-self.false c.in-Some-advance.ensures.0 c.in_default-front.ensures);
-      leaves = λ kept.
-          no_block_waiting bm sm s n _ c.of-label.ensures _ _ (c.find-entry.ensures kept) c.if-n-self.false c.in-Some-advance.ensures.0 c.in_default-front.ensures;
-      faulty = search rules;
-    }
+    let turns = subst (Turns c.find-entry.result (Begin c.unwrap_or.result)) c.in_ok-turn.ensures.ok_part c.advance.ensures in
+    let is : c.from_residual-in_err-b.result ≡ Err NoBlockWaiting = search rules in
+    rw is (no_block_waiting g.B.Map g.S.Map c.args.self.now n _ (g.met.L.BlockNumber.made n _ c.from-label.ensures) _ _ c.find-entry.ensures c.in_ok-allows.ensures turns.0
+    (sym c.in_err-b.ensures.ok_part ∙ c.front-front.ensures))
 
-pub returns-then-not-store : goal.returns-then-not-store
-returns-then-not-store g c =
-    let s = c.args.self.now in
-    let bm = g.B.Map in
-    let sm = g.S.Map in
-    let n = c.args.n in
-    record {
-      step = λ h lived.
-          let seen = c.find-entry.ensures lived.blocks_kept in
-          refused_lives bm sm h s _ (begin n) lived BlockMapFull
-          (map_full bm sm s n _ c.of-label.ensures _ _ seen c.if-n-self.false c.in-Some-advance.ensures.0 c.in-Some-front.b c.in-Some-front.ensures _ _ (c.if-not-store.ensures seen.kept));
-      leaves = λ kept.
-          let seen = c.find-entry.ensures kept in
-          map_full bm sm s n _ c.of-label.ensures _ _ seen c.if-n-self.false c.in-Some-advance.ensures.0 c.in-Some-front.b c.in-Some-front.ensures _ _ (c.if-not-store.ensures seen.kept);
-      faulty = search rules;
-    }
+pub returns-in_err-b-clause-step : goal.returns-in_err-b-clause-step
+returns-in_err-b-clause-step g c = gives_goes g.B.Map g.S.Map _ _ c.args.n _ (returns-in_err-b-clause-leaves g c)
 
-pub returns : goal.returns
-returns g c =
-    let s = c.args.self.now in
-    let bm = g.B.Map in
-    let sm = g.S.Map in
+pub returns-clause-leaves : goal.returns-clause-leaves
+returns-clause-leaves g c =
     let n = c.args.n in
-    let b = c.in-Some-front.b in
-    let turns = c.in-Some-advance.ensures in
-    let front_is : c.unwrap_or.result ≡ c.in-Some-front.b = search rules in
-    record {
-      step = λ h lived.
-          let seen = c.find-entry.ensures lived.blocks_kept in
-          given_lives bm sm h s _ lived n b
-          (sent_out bm sm s n _ c.of-label.ensures _ _ seen _ _ b c.unwrap_or.result _ _ _ c.if-n-self.false turns.0 front_is turns.1 (c.if-not-store.ensures seen.kept) c.in-Some-front.ensures c.pop_front.ensures c.saturating_add-self.ensures);
-      leaves = λ kept.
-          let seen = c.find-entry.ensures kept in
-          sent_out bm sm s n _ c.of-label.ensures _ _ seen _ _ b c.unwrap_or.result _ _ _ c.if-n-self.false turns.0 front_is turns.1 (c.if-not-store.ensures seen.kept) c.in-Some-front.ensures c.pop_front.ensures c.saturating_add-self.ensures;
-      faulty = search rules;
-    }
+    let b = c.in_ok-b.b in
+    let turns = subst (Turns c.find-entry.result (Begin c.unwrap_or.result)) c.in_ok-turn.ensures.ok_part c.advance.ensures in
+    let front_is : c.unwrap_or.result ≡ b = search rules in
+    let taken : c.store.result ≡ Ok tt = search rules in
+    sent_out g.B.Map g.S.Map c.args.self.now n _ (g.met.L.BlockNumber.made n _ c.from-label.ensures) _ _ c.find-entry.ensures _ _ b c.unwrap_or.result _ _ _ c.in_ok-allows.ensures turns.0 front_is turns.1
+    (rw taken at c.store.ensures) (sym c.in_ok-b.ensures.ok_part ∙ c.front-front.ensures) c.pop_front.ensures c.saturating_add-self.ensures
+
+pub returns-clause-step : goal.returns-clause-step
+returns-clause-step g c = gives_goes g.B.Map g.S.Map _ _ c.args.n (Ok c.in_ok-b.b) (returns-clause-leaves g c)

@@ -1,10 +1,9 @@
 -- After some changes: what the rest makes of the map now, the whole list makes of the map at first.
 use Rattle.std.proofs.Common.{◌≤◌, drop}
-use Rattle.table.specs.Tables.{live, WellKept}
 use Rattle.bucket_map.proofs.Applied.{Sofar}
 use Rattle.bucket_map.proofs.area.BucketMap.apply.Given as goal
 
 abbrev pub invariant-loop-change : goal.invariant-loop-change
 invariant-loop-change g l =
     (l.full ≤ l.change-index)
-    × (WellKept g.L.Label (live l.initial.self.buckets.now) → Sofar g.L.Label l.initial.self.buckets.now l.self.buckets.now l.changes (drop l.change-index l.changes) l.full)
+    × Sofar g.L.Label l.initial.self.buckets.now l.self.buckets.now l.changes (drop l.change-index l.changes) l.full

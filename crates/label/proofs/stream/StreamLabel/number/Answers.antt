@@ -1,7 +1,8 @@
 -- The packed parts are the definition.
+use Rattle.std.proofs.Common.{rules}
 use Rattle.label.specs.Digests.{stream_number}
 use Rattle.label.proofs.stream.StreamLabel.number.Goals as goal
 
-pub returns : goal.returns
+pub returns-clause-number : goal.returns-clause-number
 unfolding stream_number
-returns c = record { number = c.packed.ensures.number; parts = c.packed.ensures.parts }
+returns-clause-number c = search rules

@@ -1,5 +1,5 @@
 -- The value goes into the cell behind the last one, round the end of the cells.
-use Rattle.std.proofs.Common.{◌≡◌, ℕ, ◌+◌, set, refl, ap, arith, length-set, rules}
+use Rattle.std.proofs.Common.{◌+◌, set, refl, ap, arith, length-set}
 use Rattle.ring.proofs.Laws.{ring_pushes}
 use Rattle.ring.proofs.queue.Ring.push_back.Goals as goal
 
@@ -7,12 +7,11 @@ pub returns : goal.returns
 returns g c =
     let r = c.args.self.now in
     record {
-      answer = rw (← c.len-count.ensures.count) (search rules);
+      room = omega arith;
       cells = ap (λ k. set r.cells.now k c.args.x) c.back_cell-at.ensures.cell;
       head = c.front_cell-head.ensures;
       count = ap (λ m. m + 1) c.len-count.ensures.count;
       area = refl;
-      same = λ z. let y : ◌≡◌ {A = ℕ} 0 1 = cc in absurd (omega arith);
       places = length-set _ _ _;
       items = ring_pushes r.cells.now r.head r.count c.len-count.result c.len-count.ensures.count c.back_cell-at.result c.front_cell-head.result c.args.x c.front_cell-head.ensures (omega arith) c.back_cell-at.ensures.cell;
     }

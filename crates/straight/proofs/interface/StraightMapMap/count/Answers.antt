@@ -1,17 +1,15 @@
 -- Nothing changes, and the answer is what the rows mean.
 use Rattle.std.proofs.Common.{length, refl}
 use Rattle.straight.specs.Rows.{live, look}
-use Rattle.straight.proofs.Fits.{lawful, count_means}
+use Rattle.straight.proofs.Fits.{count_means}
 use Rattle.straight.proofs.interface.StraightMapMap.count.Goals as goal
 
 pub returns : goal.returns
-returns g c = λ well.
+returns g c =
     let num = g.L.Label.number in
-    let rows = c.args.self.now.rows.now in
+    let rows = live c.args.self.now.rows.now in
     record {
-      laws = lawful num (live rows);
-      kept = well;
-      fit = refl {a = length (live rows)};
-      after = refl {a = look num (live rows)};
-      answer = count_means num (live rows) c.count.result well c.count.ensures;
+      fit = refl {a = length rows};
+      after = refl {a = look num rows};
+      answer = count_means num rows c.count.result c.args.self.now.kept c.count.ensures;
     }
