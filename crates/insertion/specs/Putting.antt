@@ -5,9 +5,8 @@
 --   Puts kind bs l v r es     put, over a well-kept table
 --   Asks kind bs n r es       ask, over a well-kept table
 --   told r                what an answer of put tells but for the number of moves: full, the old payload, or that there was none
---   is_full r             whether it was full
 -- Assumes nothing.
-use Rattle.std.specs.Prelude.{◌≡◌, ℕ, ◌<◌, Bool, true, false, List, length, Some, None, Ok, Err, MatchBool, Option, Result}
+use Rattle.std.specs.Prelude.{◌≡◌, ℕ, ◌<◌, Bool, List, length, Some, None, Ok, Err, MatchBool, Option, Result}
 use Rattle.label.specs.declared.Label.{Ghosts}
 use Rattle.map.specs.Meaning.{beside, changed}
 use Rattle.map.specs.declared.Denied.{Denied}
@@ -66,7 +65,3 @@ abbrev pub told : {V : Type 0} → Result (Stored V) Denied → Option (Option V
 told (Ok (Replaced old)) = Some (Some old)
 told (Ok (Added m)) = Some None
 told (Err Full) = None
-
-abbrev pub is_full : {V : Type 0} → Result (Stored V) Denied → Bool
-is_full (Ok r) = false
-is_full (Err Full) = true
