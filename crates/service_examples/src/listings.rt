@@ -76,6 +76,51 @@ fn nine_writes(rt: HostRuntime) -> Result<(), Fail> {
     reads(&rt, &lines[8], "56 fault 3 5")
 }
 
+// Even numbers below 256 have bucket 0 alone: the fifth of them has no room beside four others, though blocks wait.
+#[test]
+fn a_number_without_room(rt: HostRuntime) -> Result<(), Fail> {
+    let mut tape = Vec::new(rt.alloc());
+    for n in [0, 2, 4, 6, 8, 1] {
+        tape.extend_from_slice(&[1, 0, 4, 0, 0, 0, n])?;
+    }
+    lists(
+        &rt,
+        tape.as_slice(),
+        &[
+            "0 ok 0",
+            "7 ok 1",
+            "14 ok 2",
+            "21 ok 3",
+            "28 fault 4 6",
+            "35 ok 4",
+        ],
+    )
+}
+
+// 256 is another number whose first bucket is 0. It makes room for 6 by a move to bucket 1, and is read there; 8 then has no room until one of the even numbers is trimmed.
+#[test]
+fn a_number_moves_for_another(rt: HostRuntime) -> Result<(), Fail> {
+    lists(
+        &rt,
+        &[
+            1, 0, 4, 0, 0, 1, 0, 1, 0, 4, 0, 0, 0, 0, 1, 0, 4, 0, 0, 0, 2, 1, 0, 4, 0, 0, 0, 4, 1,
+            0, 4, 0, 0, 0, 6, 4, 0, 4, 0, 0, 1, 0, 1, 0, 4, 0, 0, 0, 8, 5, 0, 4, 0, 0, 0, 2, 1, 0,
+            4, 0, 0, 0, 8,
+        ],
+        &[
+            "0 ok 0",
+            "7 ok 1",
+            "14 ok 2",
+            "21 ok 3",
+            "28 ok 4",
+            "35 ok 0",
+            "42 fault 4 6",
+            "49 ok 2",
+            "56 ok 5",
+        ],
+    )
+}
+
 #[test]
 fn a_refused_service(rt: HostRuntime) -> Result<(), Fail> {
     let mut cells = [9; 1];
