@@ -9,6 +9,7 @@ ghost use Rattle.table.specs.Moving.{Takes};
 ghost use Rattle.search.specs.Unique.{OneTrail};
 ghost use Rattle.placement.specs.Fit.{labels};
 ghost use Rattle.insertion.specs.Putting.{Puts, Asks};
+ghost use Rattle.insertion.specs.Unique.{OnePut};
 ghost use Rattle.insertion.specs.Alike.{SameAsk, SamePut};
 
 use crate::area::BucketMap;
@@ -43,6 +44,7 @@ impl<'a, L: Label, V: Copy> BucketMap<'a, L, V> {
         ensures lender { self.new.buckets.ghost_name ≡ self.old.buckets.ghost_name }
         ensures put { Puts L.Label self.old.buckets.now label payload result self.new.buckets.now }
         ensures one { OneTrail L.Label self.old.buckets.now }
+        ensures only { OnePut L.Label self.old.buckets.now }
         ensures alike { SamePut L.Label self.old.buckets.now label payload result }
     {
         put(self.buckets, label, payload)

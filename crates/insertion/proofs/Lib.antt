@@ -5,3 +5,4 @@ pub mod Prospects
 pub mod Additions
 pub mod Verdicts
 pub mod Same
+pub mod OnePut

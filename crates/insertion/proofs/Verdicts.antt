@@ -26,13 +26,14 @@ use Rattle.marks.specs.Marks.{Marked, bucket_at}
 use Rattle.search.specs.Reached.{LowestAt, Reached, Trail, trail_of}
 use Rattle.placement.specs.Fit.{Fits}
 use Rattle.placement.proofs.Placing.{laws, used_up}
-use Rattle.insertion.specs.Chain.{start}
+use Rattle.insertion.specs.Chain.{Moved, start}
 use Rattle.insertion.specs.Plans.{FindsOut, Follows, Planned, UsedUp, Walkable}
 use Rattle.insertion.specs.Putting.{Adds, Asks, Puts, Room}
 use Rattle.insertion.specs.declared.planning.Plan.{Plan}
 use Rattle.insertion.specs.declared.storing.Stored.{Stored}
 use Rattle.insertion.specs.declared.storing.Stored.TheVariants.{Added, Replaced}
 use Rattle.insertion.proofs.Additions.{Grown, ended_room, grown}
+use Rattle.insertion.proofs.Shifts.{moved_good}
 
 module _ {L V : Type 0} (kind : Ghosts L) (bs : List (Bucket L V)) (l : L) where
   abbrev n : ℕ
@@ -51,9 +52,9 @@ module _ {L V : Type 0} (kind : Ghosts L) (bs : List (Bucket L V)) (l : L) where
   pub ask_wrong : allowed_size (length bs) ≡ false → Asks kind bs n false bs
   ask_wrong f = record { same = refl; answer = wrong_room f }
 
-  module _ (t : allowed_size (length bs) ≡ true) (kept : WellKept kind (live bs)) where
+  module _ (allowed : allowed_size (length bs) ≡ true) (kept : WellKept kind (live bs)) where
     is_live : live bs ≡ bs
-    is_live = live_right bs t
+    is_live = live_right bs allowed
 
     sound : Sound kind bs
     sound = rw is_live at kept.sound
@@ -62,7 +63,7 @@ module _ {L V : Type 0} (kind : Ghosts L) (bs : List (Bucket L V)) (l : L) where
     at_rest = rw is_live at kept.blank
 
     right : Allowed (length bs)
-    right = allowed_true (length bs) t
+    right = allowed_true (length bs) allowed
 
     some : 0 < length bs
     some = allowed_pos (length bs) right
@@ -76,7 +77,7 @@ module _ {L V : Type 0} (kind : Ghosts L) (bs : List (Bucket L V)) (l : L) where
     -- a table after the call
     module _ (es : List (Bucket L V)) (size : length es ≡ length bs) where
       live_es : live es ≡ es
-      live_es = live_right es (ap allowed_size size ∙ t)
+      live_es = live_right es (ap allowed_size size ∙ allowed)
 
       kept_es : Sound kind es → unmarked es ≡ es → WellKept kind (live es)
       kept_es s b = rw live_es (record { sound = s; blank = b })
@@ -122,21 +123,54 @@ module _ {L V : Type 0} (kind : Ghosts L) (bs : List (Bucket L V)) (l : L) where
 
     -- ---- it is held nowhere
 
-    module _ (c : ℕ) (looks : Looks kind bs n None c) where
-      none : Nowhere kind bs n
-      none = looks_nowhere kind bs n sound c looks
-
+    module _ (none : Nowhere kind bs n) where
       none_look : look kind (live bs) n ≡ None
       none_look = ap (λ z. look kind z n) is_live ∙ look_none kind bs n none
 
       no_room : UsedUp kind bs n → Room kind bs n → ⊥
       no_room u room = used_up kind bs n u.0 sound none u.1 (rw is_live at room)
 
-      put_full : (v : V) → UsedUp kind bs n → Puts kind bs l v (Err Full) bs
+      pub put_full : (v : V) → UsedUp kind bs n → Puts kind bs l v (Err Full) bs
       put_full v u = record { kept = kept; size = refl; stores = (none_look, no_room u, refl) }
 
       ask_full : UsedUp kind bs n → Asks kind bs n false bs
       ask_full u = record { same = refl; answer = no_room u }
+
+      -- moves lead back from the end of its search
+      module _ (t : Trail) (e k : ℕ) (r : Reached kind bs (first_of kind (length bs) n) (second_of kind (length bs) n) t e 0) (here : e < t.count) (low : LowestAt bs (t.bucket e) k) (m : ℕ) (cs : List (Bucket L V)) (a j : ℕ) (moved : Moved kind t bs e k m cs a j) (home : a < t.starts) (v : V) (es : List (Bucket L V)) (area : es ≡ occupied kind cs n (t.bucket a) j l v) where
+        more : Grown kind bs n v m es
+        more = rw area (grown kind bs n t e k r here low small sound none m cs a j moved home l v refl)
+
+        adds : Adds kind bs l v m es
+        adds =
+            record {
+              trail = t;
+              place = e;
+              slot = k;
+              reached = r;
+              ended = (here, low);
+              table = cs;
+              home = a;
+              freed = j;
+              moved = moved;
+              start = home;
+              between = λ i ds b x w.
+                  let good = moved_good kind bs (first_of kind (length bs) n) (second_of kind (length bs) n) t e k r here low small i ds b x w in
+                  record { sound = good.sound sound; finds = good.finds sound };
+              area = area;
+            }
+
+        pub put_walk : Puts kind bs l v (Ok (Added m)) es
+        put_walk =
+            record {
+              kept = kept_es es more.long more.sound (more.blank at_rest);
+              size = more.long;
+              stores = (none_look, live_room more.room, looks_es es more.long (λ f. changed f n (Some v)) more.finds, more.few, adds);
+            }
+
+    module _ (c : ℕ) (looks : Looks kind bs n None c) where
+      none_here : Nowhere kind bs n
+      none_here = looks_nowhere kind bs n sound c looks
 
       module _ (ms : List (Bucket L V)) (q : Plan) (walk : Walkable ms q) (plan : Planned kind bs n ms q) where
         abbrev trail : Trail
@@ -155,7 +189,7 @@ module _ {L V : Type 0} (kind : Ghosts L) (bs : List (Bucket L V)) (l : L) where
         ask_ready gs blanked =
             record {
               same = blanked plan.search.marked ∙ plan.search.same;
-              answer = live_room (ended_room kind bs n trail q.place q.free.slot reached within low small sound none l refl);
+              answer = live_room (ended_room kind bs n trail q.place q.free.slot reached within low small sound none_here l refl);
             }
 
         pub follows_start : Follows kind trail bs q.place q.free.slot ms q
@@ -175,32 +209,9 @@ module _ {L V : Type 0} (kind : Ghosts L) (bs : List (Bucket L V)) (l : L) where
           area_is : es ≡ occupied kind (unmarked ms') n (trail.bucket q'.place) q'.free.slot l v
           area_is = let same = follows.buckets q'.place in cc
 
-          more : Grown kind bs n v q'.moves es
-          more = rw area_is (grown kind bs n trail q.place q.free.slot reached within low small sound none q'.moves (unmarked ms') q'.place q'.free.slot follows.moved at_start l v refl)
-
-          adds : Adds kind bs l v q'.moves es
-          adds =
-              record {
-                trail = trail;
-                place = q.place;
-                slot = q.free.slot;
-                reached = reached;
-                ended = (within, low);
-                table = unmarked ms';
-                home = q'.place;
-                freed = q'.free.slot;
-                moved = follows.moved;
-                start = at_start;
-                area = area_is;
-              }
-
           pub put_added : Puts kind bs l v (Ok (Added q'.moves)) es
           put_added =
-              record {
-                kept = kept_es es more.long more.sound (more.blank at_rest);
-                size = more.long;
-                stores = (none_look, live_room more.room, looks_es es more.long (λ f. changed f n (Some v)) more.finds, more.few, adds);
-              }
+              put_walk none_here trail q.place q.free.slot reached within low q'.moves (unmarked ms') q'.place q'.free.slot follows.moved at_start v es area_is
 
     -- ---- it is denied, in the one way there is
 
@@ -209,7 +220,7 @@ module _ {L V : Type 0} (kind : Ghosts L) (bs : List (Bucket L V)) (l : L) where
       put_denied v Full (Ok s) is_err told = absurd (cc)
       put_denied v Full (Err Full) is_err told =
           let full = told.0 at_rest in
-          rw full.0 (put_full told.1.0 told.1.1 v full.1)
+          rw full.0 (put_full (none_here told.1.0 told.1.1) v full.1)
 
       pub ask_denied : (e : Denied) → FindsOut kind bs n ms (Err e) → Asks kind bs n false ms
-      ask_denied Full told = let full = told.0 at_rest in rw full.0 (ask_full told.1.0 told.1.1 full.1)
+      ask_denied Full told = let full = told.0 at_rest in rw full.0 (ask_full (none_here told.1.0 told.1.1) full.1)

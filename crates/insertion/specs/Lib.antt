@@ -3,3 +3,4 @@ pub mod Chain
 pub mod Putting
 pub mod Plans
 pub mod Alike
+pub mod Unique

@@ -14,7 +14,7 @@ use Rattle.map.specs.declared.Denied.TheVariants.{Full}
 use Rattle.bucket.specs.declared.slots.Bucket.{Bucket}
 use Rattle.bucket.specs.Changes.{modify, repaid}
 use Rattle.table.specs.Tables.{live, first_of, second_of, look, Lies, WellKept}
-use Rattle.table.specs.Moving.{occupied}
+use Rattle.table.specs.Moving.{occupied, Moves}
 use Rattle.search.specs.Reached.{Trail, Reached, LowestAt}
 use Rattle.placement.specs.Fit.{Fits}
 use Rattle.insertion.specs.declared.storing.Stored.{Stored}
@@ -38,6 +38,8 @@ module _ {L V : Type 0} (kind : Ghosts L) (bs : List (Bucket L V)) where
     pub freed : ℕ
     pub moved : Moved kind trail bs place slot m table home freed
     pub start : home < trail.starts
+    -- after each of them the table is sound, and every find gives the payload that it gave before the put
+    pub between : (i : ℕ) (cs : List (Bucket L V)) (a k : ℕ) → Moved kind trail bs place slot i cs a k → Moves kind bs cs
     -- where the new label goes
     pub area : es ≡ occupied kind table (kind.number l) (trail.bucket home) freed l v
 

@@ -3,6 +3,7 @@ ghost use Rattle.std.specs.Prelude.{◌≡◌};
 ghost use Rattle.table.specs.Tables.{live, WellKept};
 ghost use Rattle.search.specs.Unique.{OneTrail};
 ghost use Rattle.insertion.specs.Putting.{Puts, Asks};
+ghost use Rattle.insertion.specs.Unique.{OnePut};
 ghost use Rattle.insertion.specs.Alike.{SameAsk, SamePut};
 
 use crate::moving::make_moves;
@@ -66,6 +67,7 @@ pub fn put<L: Label, V: Copy>(
 ) -> Result<Stored<V>, Denied>
     ensures put { WellKept L.Label (live buckets.old) → Puts L.Label buckets.old label payload result buckets.new }
     ensures one { OneTrail L.Label buckets.old }
+    ensures only { OnePut L.Label buckets.old }
     ensures alike { SamePut L.Label buckets.old label payload result }
 {
     store(buckets, label, payload)
