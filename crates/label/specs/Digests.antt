@@ -4,8 +4,7 @@
 --   stirred z k m                      z xor z / 2 ^ k, times m, within 64 bits
 --   mixed z                            SplitMix64's mixing step
 --   stream_number port channel session the number of a stream label
---   WorkedDigests                      known values of the two digests
-use Rattle.std.specs.Prelude.{ℕ, ◌+◌, ◌*◌, ◌/◌, ◌%◌, ◌^◌, ◌≡◌}
+use Rattle.std.specs.Prelude.{ℕ, ◌+◌, ◌*◌, ◌/◌, ◌%◌, ◌^◌}
 use Rattle.std.specs.Int.Bits.{bit_xor}
 
 unfoldable pub rotated : ℕ → ℕ
@@ -24,8 +23,3 @@ mixed z =
 
 unfoldable pub stream_number : ℕ → ℕ → ℕ → ℕ
 stream_number port channel session = port * 2 ^ 24 + channel * 2 ^ 8 + session
-
-pub record WorkedDigests : Type 0 where
-  pub old_256 : old_digest 256 ≡ 4294967552
-  pub old_1 : old_digest 1 ≡ 2 ^ 56 + 1
-  pub mixed_0 : mixed 0 ≡ 0

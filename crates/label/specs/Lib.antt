@@ -1,2 +1,3 @@
 -- The spec files of the crate.
 pub mod Digests
+pub mod Lines

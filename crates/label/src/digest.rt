@@ -1,7 +1,7 @@
 // The digests that labels are spread by.
 ghost use Rattle.std.specs.Prelude.{◌*◌, ◌%◌, ◌^◌, ◌≡◌};
 ghost use Rattle.std.specs.Int.Bits.{bit_xor};
-ghost use Rattle.label.specs.Digests.{old_digest, mixed, WorkedDigests};
+ghost use Rattle.label.specs.Digests.{old_digest, mixed};
 
 // SplitMix64's mixing step, so that numbers in a row have digests far apart.
 pub fn mix(z: u64) -> u64
@@ -24,11 +24,4 @@ pub fn old_digest(n: u32) -> u64
     ensures { result ≡ old_digest n }
 {
     n as u64 + ((n.rotate_right(8) as u64) << 32)
-}
-
-// The definitions of the digests give these known values.
-pub fn worked_digests() -> bool
-    ensures { WorkedDigests }
-{
-    true
 }

@@ -8,7 +8,7 @@ mod new_block;
 mod old_block;
 mod stream;
 
-pub use digest::{mix, worked_digests};
+pub use digest::mix;
 pub use new_block::NewBlock;
 pub use old_block::OldBlock;
 pub use stream::StreamLabel;

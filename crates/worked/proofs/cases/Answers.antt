@@ -1,0 +1,24 @@
+-- Each case is computed, or comes from the one outcome of its puts.
+use Rattle.std.proofs.Common.{refl}
+use Rattle.label.specs.Digests.{mixed, stirred, old_digest, rotated}
+use Rattle.bucket.specs.Spread.{pair_of}
+use Rattle.worked.proofs.Denying.{denies_hold}
+use Rattle.worked.proofs.Direct.{places_hold}
+use Rattle.worked.proofs.Moving.{moves_hold}
+use Rattle.worked.proofs.OneBucket.{one_bucket_holds}
+use Rattle.worked.proofs.Outcomes.{one_outcome_holds}
+use Rattle.worked.proofs.Reading.{reads_hold}
+use Rattle.worked.proofs.cases.Goals as goal
+
+pub returns : goal.returns
+unfolding mixed stirred old_digest rotated pair_of
+returns g c =
+    record {
+      spread = record { of_256 = refl; of_1 = refl; pair_of_1 = (refl, refl); tag_of_1 = refl; mask_of_131328 = refl; mixed_0 = refl };
+      one_outcome = one_outcome_holds;
+      places = places_hold;
+      moves = moves_hold;
+      denies = denies_hold;
+      reads = reads_hold;
+      one_bucket = one_bucket_holds;
+    }

@@ -1,0 +1,2 @@
+-- What the worked cases say.
+pub mod Cases
