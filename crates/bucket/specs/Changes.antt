@@ -2,9 +2,9 @@
 --   unused s           the slot s, no longer used
 --   filled k s b       s in slot k of b
 --   freed k b          slot k of b unused; its tag, label and payload stay
---   repaid k v b       another payload in slot k
---   moved_out m b      one label more of the first bucket b lies elsewhere: the count rises, and the filter gets the mask m
---   moved_back b       one label fewer: the count falls, and the filter is 0 when it reaches 0
+--   with_payload k v b       another payload in slot k
+--   counted_out m b      one label more of the first bucket b lies elsewhere: the count rises, and the filter gets the mask m
+--   counted_back b       one label fewer: the count falls, and the filter is 0 when it reaches 0
 --   with_counts m f b  another moved count m and filter f
 --   with_mark m b      another mark
 --   with_joined, with_place   a part of the mark
@@ -43,19 +43,19 @@ module _ {L V : Type 0} where
   abbrev pub freed : ℕ → Bucket L V → Bucket L V
   freed k b = with_slot b k (unused (slot_of b k))
 
-  abbrev pub repaid : ℕ → V → Bucket L V → Bucket L V
-  repaid k v b =
+  abbrev pub with_payload : ℕ → V → Bucket L V → Bucket L V
+  with_payload k v b =
       with_slot b k (record { used = (slot_of b k).used; tag = (slot_of b k).tag; label = (slot_of b k).label; payload = v })
 
   abbrev pub with_counts : ℕ → ℕ → Bucket L V → Bucket L V
   with_counts m f b =
       record { filter = f; moved = m; mark = b.mark; s0 = b.s0; s1 = b.s1; s2 = b.s2; s3 = b.s3 }
 
-  abbrev pub moved_out : ℕ → Bucket L V → Bucket L V
-  moved_out m b = with_counts (min (b.moved + 1) 65535) (bit_or b.filter m) b
+  abbrev pub counted_out : ℕ → Bucket L V → Bucket L V
+  counted_out m b = with_counts (min (b.moved + 1) 65535) (bit_or b.filter m) b
 
-  abbrev pub moved_back : Bucket L V → Bucket L V
-  moved_back b = with_counts (b.moved - 1) (cond (b.moved - 1 == 0) 0 b.filter) b
+  abbrev pub counted_back : Bucket L V → Bucket L V
+  counted_back b = with_counts (b.moved - 1) (cond (b.moved - 1 == 0) 0 b.filter) b
 
   abbrev pub with_mark : Mark → Bucket L V → Bucket L V
   with_mark m b =

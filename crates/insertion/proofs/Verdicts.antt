@@ -7,7 +7,7 @@ use Rattle.map.specs.Meaning.{beside, changed}
 use Rattle.map.specs.declared.Denied.{Denied}
 use Rattle.map.specs.declared.Denied.TheVariants.{Full}
 use Rattle.map.proofs.Room.{held_room}
-use Rattle.bucket.specs.Changes.{modify, repaid}
+use Rattle.bucket.specs.Changes.{modify, with_payload}
 use Rattle.bucket.specs.Slots.{slot_of}
 use Rattle.bucket.specs.Spread.{Allowed, allowed_size}
 use Rattle.bucket.specs.declared.slots.Bucket.{Bucket}
@@ -17,10 +17,10 @@ use Rattle.table.specs.Finding.{Looks}
 use Rattle.table.specs.Moving.{occupied}
 use Rattle.table.specs.Tables.{Lies, Nowhere, Sound, WellKept, first_of, live, look, second_of, unmarked}
 use Rattle.table.specs.declared.finding.Spot.{Spot}
-use Rattle.table.proofs.Alike.{repaid_look, repaid_sound}
+use Rattle.table.proofs.Alike.{with_payload_look, with_payload_sound}
 use Rattle.table.proofs.Answering.{live_right, live_wrong}
 use Rattle.table.proofs.Looking.{look_at, look_none}
-use Rattle.table.proofs.Marks.{rest_repaid}
+use Rattle.table.proofs.Marks.{rest_with_payload}
 use Rattle.table.proofs.Rule.{looks_lies, looks_nowhere}
 use Rattle.marks.specs.Marks.{Marked, bucket_at}
 use Rattle.search.specs.Reached.{LowestAt, Reached, Trail, trail_of}
@@ -103,22 +103,22 @@ module _ {L V : Type 0} (kind : Ghosts L) (bs : List (Bucket L V)) (l : L) where
       pub ask_held : Asks kind bs n true bs
       ask_held = record { same = refl; answer = live_room (held_room (look kind bs) (Fits kind (length bs)) (laws kind bs sound) n (ap is_some held_look)) }
 
-      pub put_held : (v old : V) (es : List (Bucket L V)) → ((d : Bucket L V) → old ≡ (slot_of (get_or bs x.bucket d) x.slot).payload) → es ≡ modify (repaid x.slot v) bs x.bucket → Puts kind bs l v (Ok (Replaced old)) es
+      pub put_held : (v old : V) (es : List (Bucket L V)) → ((d : Bucket L V) → old ≡ (slot_of (get_or bs x.bucket d) x.slot).payload) → es ≡ modify (with_payload x.slot v) bs x.bucket → Puts kind bs l v (Ok (Replaced old)) es
       put_held v old es was area =
-          let size : length es ≡ length bs = ap length area ∙ length_modify (repaid x.slot v) bs x.bucket in
+          let size : length es ≡ length bs = ap length area ∙ length_modify (with_payload x.slot v) bs x.bucket in
           record {
             kept = kept_es es size
-                (rw area (repaid_sound kind bs sound n x.bucket x.slot v lies))
-                (rw area (rest_repaid bs x.bucket x.slot v at_rest));
+                (rw area (with_payload_sound kind bs sound n x.bucket x.slot v lies))
+                (rw area (rest_with_payload bs x.bucket x.slot v at_rest));
             size = size;
             stores = (
               ap (λ z. look kind z n) is_live ∙ held_look ∙ ap Some (ap (λ b. (slot_of b x.slot).payload) y_is ∙ sym (was y)),
-              looks_es es size (λ f. changed f n (Some v)) (λ q. let put = repaid_look kind bs sound n x.bucket x.slot v lies q in rw area (grind (arith, nat_tests))),
+              looks_es es size (λ f. changed f n (Some v)) (λ q. let put = with_payload_look kind bs sound n x.bucket x.slot v lies q in rw area (grind (arith, nat_tests))),
               λ i k h. elsewhere i k (rw is_live at h),
             );
           }
         where
-          elsewhere : (i k : ℕ) → Lies kind bs n i k → es ≡ modify (repaid k v) bs i
+          elsewhere : (i k : ℕ) → Lies kind bs n i k → es ≡ modify (with_payload k v) bs i
           elsewhere i k h = let one = sound.once n x.bucket x.slot i k lies h in cc
 
     -- ---- it is held nowhere

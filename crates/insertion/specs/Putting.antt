@@ -12,7 +12,7 @@ use Rattle.map.specs.Meaning.{beside, changed}
 use Rattle.map.specs.declared.Denied.{Denied}
 use Rattle.map.specs.declared.Denied.TheVariants.{Full}
 use Rattle.bucket.specs.declared.slots.Bucket.{Bucket}
-use Rattle.bucket.specs.Changes.{modify, repaid}
+use Rattle.bucket.specs.Changes.{modify, with_payload}
 use Rattle.table.specs.Tables.{live, first_of, second_of, look, Lies, WellKept}
 use Rattle.table.specs.Moving.{occupied, Moves}
 use Rattle.search.specs.Reached.{Trail, Reached, LowestAt}
@@ -47,7 +47,7 @@ module _ {L V : Type 0} (kind : Ghosts L) (bs : List (Bucket L V)) where
   Stores l v es (Ok (Replaced old)) =
       (look kind (live bs) (kind.number l) ≡ Some old)
       × ((m : ℕ) → look kind (live es) m ≡ changed (look kind (live bs)) (kind.number l) (Some v) m)
-      × ((i k : ℕ) → Lies kind (live bs) (kind.number l) i k → es ≡ modify (repaid k v) bs i)
+      × ((i k : ℕ) → Lies kind (live bs) (kind.number l) i k → es ≡ modify (with_payload k v) bs i)
   Stores l v es (Ok (Added m)) =
       (look kind (live bs) (kind.number l) ≡ None) × Room (kind.number l)
       × ((q : ℕ) → look kind (live es) q ≡ changed (look kind (live bs)) (kind.number l) (Some v) q)

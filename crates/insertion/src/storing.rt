@@ -12,7 +12,7 @@ use bucket::{Bucket, allowed};
 use label::Label;
 use map::Denied;
 use marks::blank;
-use table::{occupy, repay};
+use table::{occupy, replace_payload};
 
 // What a put did: another payload for the label, or a new pair after some moves.
 #[derive(Clone, Copy, PartialEq, Eq, Debug)]
@@ -32,7 +32,7 @@ fn store<L: Label, V: Copy>(
         return Err(Denied::Full);
     }
     match prospect_of(buckets, label)? {
-        Prospect::Held(spot) => Ok(Stored::Replaced(repay(buckets, spot, payload))),
+        Prospect::Held(spot) => Ok(Stored::Replaced(replace_payload(buckets, spot, payload))),
         Prospect::Ready(plan) => {
             let end = make_moves(buckets, plan);
             blank(buckets, end.count);

@@ -4,6 +4,7 @@
 --   stirred z k m                      z xor z / 2 ^ k, times m, within 64 bits
 --   mixed z                            SplitMix64's mixing step
 --   stream_number port channel session the number of a stream label
+-- Assumes nothing.
 use Rattle.std.specs.Prelude.{ℕ, ◌+◌, ◌*◌, ◌/◌, ◌%◌, ◌^◌}
 use Rattle.std.specs.Int.Bits.{bit_xor}
 

@@ -1,7 +1,8 @@
 -- Which sets of labels a table of a size can hold, and how many labels it holds.
 --   Fits kind b s      each label of the set s can be given its first or its second bucket, among b buckets, with no bucket given more than four
 --   slots_of bs        all slots, bucket after bucket
---   labels kind bs     the numbers of the labels in the used ones
+--   labels_in kind ss  the numbers of the labels in the used ones of the slots ss
+--   labels kind bs     the numbers of the labels that the table holds
 -- Assumes nothing.
 use Rattle.std.specs.Prelude.{◌≡◌, ℕ, ◌<◌, Bool, true, cond, ◌&&◌, ◌⊎◌, List, [], ◌∷◌, ◌==◌}
 use Rattle.label.specs.declared.Label.{Ghosts}

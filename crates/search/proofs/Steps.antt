@@ -3,7 +3,7 @@ use Rattle.std.proofs.Common.{◌≡◌, ℕ, ◌+◌, ◌<◌, ◌≤◌, true,
 use Rattle.std.proofs.lemmas.Bool.{cases_Bool, cond-false, cond-true}
 use Rattle.label.specs.declared.Label.{Ghosts}
 use Rattle.bucket.specs.Changes.{blank_mark, modify, peek, with_joined, with_place}
-use Rattle.bucket.specs.Slots.{Full, Lowest, slot_of}
+use Rattle.bucket.specs.Slots.{AllUsed, Lowest, slot_of}
 use Rattle.bucket.specs.Spread.{first, second}
 use Rattle.bucket.specs.declared.slots.Bucket.{Bucket}
 use Rattle.bucket.proofs.Changed.{with_mark_slots}
@@ -19,7 +19,7 @@ use Rattle.search.proofs.Order.{Extends, reached_new, reached_next, reached_old,
 module _ {L V : Type 0} where
   -- ---- reading a bucket
 
-  pub vacancy_read : (bs : List (Bucket L V)) (i : ℕ) (x : Bucket L V) → i < length bs → x ≡ get_or bs i x → (r : Option ℕ) → MatchOption r (Full x) (Lowest x) → MatchOption r (FullAt bs i) (LowestAt bs i)
+  pub vacancy_read : (bs : List (Bucket L V)) (i : ℕ) (x : Bucket L V) → i < length bs → x ≡ get_or bs i x → (r : Option ℕ) → MatchOption r (AllUsed x) (Lowest x) → MatchOption r (FullAt bs i) (LowestAt bs i)
   vacancy_read bs i x lt is None full = λ k. peek_read (λ b. (slot_of b k).used) false bs i x lt is ∙ full k
   vacancy_read bs i x lt is (Some k) low = (
     low.0,

@@ -1,7 +1,7 @@
 -- Tables with the same labels in the same slots: other marks, or another payload.
 use Rattle.std.proofs.Common.{◌≡◌, ℕ, zero, suc, ◌<◌, true, cond, eqb, ◌⊎◌, List, [], ◌∷◌, length, get_or, Some, sym, refl, ap, ◌∙◌, subst, ⊎_elim, arith}
 use Rattle.label.specs.declared.Label.{Ghosts}
-use Rattle.bucket.specs.Changes.{blank_mark, modify, peek, repaid, with_mark}
+use Rattle.bucket.specs.Changes.{blank_mark, modify, peek, with_payload, with_mark}
 use Rattle.bucket.specs.Slots.{slot_of}
 use Rattle.bucket.specs.Spread.{contains, mask_of}
 use Rattle.bucket.specs.declared.slots.Bucket.{Bucket}
@@ -46,45 +46,45 @@ module _ {L V : Type 0} where
   peek_unmarked g e (b ∷ bs) (suc i) h = peek_unmarked g e bs i h
 
   -- another payload
-  movers_in_repaid : (kind : Ghosts L) (size q : ℕ) (k : ℕ) (v : V) (b : Bucket L V) (i : ℕ) → movers_in kind size q i (repaid k v b) ≡ movers_in kind size q i b
-  movers_in_repaid kind size q k v b i = by_slot (λ k. movers_in kind size q i (repaid k v b) ≡ movers_in kind size q i b) refl refl refl (λ k. refl) k
+  movers_in_with_payload : (kind : Ghosts L) (size q : ℕ) (k : ℕ) (v : V) (b : Bucket L V) (i : ℕ) → movers_in kind size q i (with_payload k v b) ≡ movers_in kind size q i b
+  movers_in_with_payload kind size q k v b i = by_slot (λ k. movers_in kind size q i (with_payload k v b) ≡ movers_in kind size q i b) refl refl refl (λ k. refl) k
 
-  repaid_alike : (k : ℕ) (v : V) (b : Bucket L V) (t : ℕ) → Alike (slot_of (repaid k v b) t) (slot_of b t)
-  repaid_alike k v b t =
+  with_payload_alike : (k : ℕ) (v : V) (b : Bucket L V) (t : ℕ) → Alike (slot_of (with_payload k v b) t) (slot_of b t)
+  with_payload_alike k v b t =
       ⊎_elim (λ w. (ap (λ s. s.used) w.1 ∙ ap (λ s. s.used) (sym w.2), ap (λ s. s.tag) w.1 ∙ ap (λ s. s.tag) (sym w.2), ap (λ s. s.label) w.1 ∙ ap (λ s. s.label) (sym w.2)))
       (λ e. (ap (λ s. s.used) e, ap (λ s. s.tag) e, ap (λ s. s.label) e))
       (slot_with_cases b k t (record { used = (slot_of b k).used; tag = (slot_of b k).tag; label = (slot_of b k).label; payload = v }))
 
   module _ (kind : Ghosts L) (bs : List (Bucket L V)) (sound : Sound kind bs) (n i k : ℕ) (v : V) (l : Lies kind bs n i k) where
     abbrev es : List (Bucket L V)
-    es = modify (repaid k v) bs i
+    es = modify (with_payload k v) bs i
 
     al : (j t : ℕ) (d : Bucket L V) → Alike (slot_of (get_or es j d) t) (slot_of (get_or bs j d) t)
-    al j t d = slots_modify Alike (λ s. (refl, refl, refl)) (repaid k v) (repaid_alike k v) bs i j t d
+    al j t d = slots_modify Alike (λ s. (refl, refl, refl)) (with_payload k v) (with_payload_alike k v) bs i j t d
 
     mv : (q : ℕ) → peek (λ b. b.moved) 0 es q ≡ peek (λ b. b.moved) 0 bs q
-    mv q = peek_modify_keep (λ b. b.moved) 0 (repaid k v) bs i q (λ b. with_moved b k _)
+    mv q = peek_modify_keep (λ b. b.moved) 0 (with_payload k v) bs i q (λ b. with_moved b k _)
 
     fl : (q : ℕ) → peek (λ b. b.filter) 0 es q ≡ peek (λ b. b.filter) 0 bs q
-    fl q = peek_modify_keep (λ b. b.filter) 0 (repaid k v) bs i q (λ b. with_filter b k _)
+    fl q = peek_modify_keep (λ b. b.filter) 0 (with_payload k v) bs i q (λ b. with_filter b k _)
 
     ou : (size q : ℕ) → movers kind size q 0 es ≡ movers kind size q 0 bs
-    ou size q = movers_keep kind size q (repaid k v) (λ b j. movers_in_repaid kind size q k v b j) bs 0 i
+    ou size q = movers_keep kind size q (with_payload k v) (λ b j. movers_in_with_payload kind size q k v b j) bs 0 i
 
-    pub repaid_sound : Sound kind es
-    repaid_sound = sound_alike kind bs es sound (length_modify (repaid k v) bs i) al mv fl ou
+    pub with_payload_sound : Sound kind es
+    with_payload_sound = sound_alike kind bs es sound (length_modify (with_payload k v) bs i) al mv fl ou
 
     here : (d : Bucket L V) → (slot_of (get_or es i d) k).payload ≡ v
-    here d = ap (λ b. (slot_of b k).payload) (get_or_modify_same (repaid k v) bs i d l.0) ∙ ap (λ s. s.payload) (slot_with_same (get_or bs i d) k _)
+    here d = ap (λ b. (slot_of b k).payload) (get_or_modify_same (with_payload k v) bs i d l.0) ∙ ap (λ s. s.payload) (slot_with_same (get_or bs i d) k _)
 
     there : (j t : ℕ) (d : Bucket L V) → t < 4 → ((j ≡ i) × (t ≡ k) → ⊥) → slot_of (get_or es j d) t ≡ slot_of (get_or bs j d) t
     there j t d few ne = edit_other (λ b. record { used = (slot_of b k).used; tag = (slot_of b k).tag; label = (slot_of b k).label; payload = v }) bs i k j t d l.0 l.1 few ne
 
-    pub repaid_look : (m : ℕ) → look kind es m ≡ cond (eqb m n) (Some v) (look kind bs m)
-    repaid_look m =
-        look_but (look kind es) (look kind bs) n m (Some v) (look_some kind es repaid_sound n i k v (lies_new n i k l) here)
-        (λ ne. look_as kind bs es repaid_sound m (lies_back kind bs es sound (length_modify (repaid k v) bs i) al mv fl ou m)
+    pub with_payload_look : (m : ℕ) → look kind es m ≡ cond (eqb m n) (Some v) (look kind bs m)
+    with_payload_look m =
+        look_but (look kind es) (look kind bs) n m (Some v) (look_some kind es with_payload_sound n i k v (lies_new n i k l) here)
+        (λ ne. look_as kind bs es with_payload_sound m (lies_back kind bs es sound (length_modify (with_payload k v) bs i) al mv fl ou m)
         (λ j t h. (lies_new m j t h, λ d. ap (λ s. s.payload) (there j t d h.1 (λ e. ne (lies_once kind bs m n i j k t d h l e))))))
       where
         lies_new : (m j t : ℕ) → Lies kind bs m j t → Lies kind es m j t
-        lies_new = lies_forth kind bs es sound (length_modify (repaid k v) bs i) al mv fl ou
+        lies_new = lies_forth kind bs es sound (length_modify (with_payload k v) bs i) al mv fl ou

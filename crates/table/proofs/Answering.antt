@@ -4,7 +4,7 @@ use Rattle.std.proofs.lemmas.Bool.{cond-false, cond-true, true≢false}
 use Rattle.std.specs.Map.{update}
 use Rattle.label.specs.declared.Label.{Ghosts}
 use Rattle.label.proofs.Sameness.{eqb_swap}
-use Rattle.bucket.specs.Changes.{freed, moved_back}
+use Rattle.bucket.specs.Changes.{freed, counted_back}
 use Rattle.bucket.specs.Slots.{slot_of}
 use Rattle.bucket.specs.Spread.{allowed_size}
 use Rattle.bucket.specs.declared.slots.Bucket.{Bucket}
@@ -98,7 +98,7 @@ module _ {L V : Type 0} (kind : Ghosts L) (bs : List (Bucket L V)) (n : ℕ) whe
       area_is = area ∙ ap (λ z. vacated kind bs z x.bucket x.slot) (ap (λ z. kind.number z.label) (slot y) ∙ (lies.2 y).1)
 
       size : length es ≡ length bs
-      size = ap length area_is ∙ length_at_both (freed x.slot) moved_back bs x.bucket (first_of kind (length bs) n)
+      size = ap length area_is ∙ length_at_both (freed x.slot) counted_back bs x.bucket (first_of kind (length bs) n)
 
       live_es : live es ≡ es
       live_es = live_right es (ap allowed_size size ∙ t)

@@ -4,12 +4,12 @@ use lib.Bits.{bit_and, bit_or}
 use Rattle.std.proofs.lemmas.Nat.{and_or_self}
 use Rattle.std.proofs.lemmas.Bool.{and_left, cases_eq, cond-false, eq-eqb, eqb-true, true≢false}
 use Rattle.label.specs.declared.Label.{Ghosts}
-use Rattle.bucket.specs.Changes.{filled, modify, moved_out, peek}
+use Rattle.bucket.specs.Changes.{filled, modify, counted_out, peek}
 use Rattle.bucket.specs.Slots.{Has, slot_of}
 use Rattle.bucket.specs.Spread.{contains, mask_of, tag_of}
 use Rattle.bucket.specs.declared.slots.Bucket.{Bucket}
 use Rattle.bucket.specs.declared.slots.Slot.{Slot}
-use Rattle.bucket.proofs.Changed.{moved_out_slots, slot_with_same, with_filter, with_moved}
+use Rattle.bucket.proofs.Changed.{counted_out_slots, slot_with_same, with_filter, with_moved}
 use Rattle.bucket.proofs.Lists.{get_or_modify_same, length_modify, peek_modify_map, peek_modify_keep, peek_modify_other}
 use Rattle.bucket.proofs.Sizes.{first_below}
 use Rattle.table.specs.Moving.{occupied}
@@ -139,10 +139,10 @@ module _ {L V : Type 0} where
     -- it comes to lie elsewhere
     module _ (away : p' ≡ i → ⊥) where
       abbrev es' : List (Bucket L V)
-      es' = modify (moved_out (mask_of (kind.spread n))) cs p'
+      es' = modify (counted_out (mask_of (kind.spread n))) cs p'
 
       len_es : length es' ≡ length bs
-      len_es = length_modify (moved_out (mask_of (kind.spread n))) cs p' ∙ length_modify (filled k ns) bs i
+      len_es = length_modify (counted_out (mask_of (kind.spread n))) cs p' ∙ length_modify (filled k ns) bs i
 
       within : p' < length bs
       within = first_below (kind.spread n) (length bs) (omega arith)
@@ -151,14 +151,14 @@ module _ {L V : Type 0} where
       within_cs = subst (λ z. p' < z) (sym (length_modify (filled k ns) bs i)) within
 
       slots_es : (j m : ℕ) (d : Bucket L V) → slot_of (get_or es' j d) m ≡ slot_of (get_or cs j d) m
-      slots_es j m d = slots_modify ◌≡◌ (λ s. refl) (moved_out (mask_of (kind.spread n))) (moved_out_slots (mask_of (kind.spread n))) cs p' j m d
+      slots_es j m d = slots_modify ◌≡◌ (λ s. refl) (counted_out (mask_of (kind.spread n))) (counted_out_slots (mask_of (kind.spread n))) cs p' j m d
 
       movers_es : (q : ℕ) → movers kind (length bs) q 0 es' ≡ movers kind (length bs) q 0 bs + mover kind (length bs) q i ns
-      movers_es q = movers_keep kind (length bs) q (moved_out (mask_of (kind.spread n))) (λ b j. refl) cs 0 p' ∙ cs_outs q
+      movers_es q = movers_keep kind (length bs) q (counted_out (mask_of (kind.spread n))) (λ b j. refl) cs 0 p' ∙ cs_outs q
 
       moved_p : peek (λ b. b.moved) 0 es' p' ≡ movers kind (length bs) p' 0 bs + 1
       moved_p =
-          let a = peek_modify_map (λ b. b.moved) 0 (moved_out (mask_of (kind.spread n))) (λ z. min (z + 1) 65535) cs p' within_cs (λ b. refl) in
+          let a = peek_modify_map (λ b. b.moved) 0 (counted_out (mask_of (kind.spread n))) (λ z. min (z + 1) 65535) cs p' within_cs (λ b. refl) in
           let b = cs_moved p' in
           let c = sound.counts p' within in
           let d = movers_le kind (length bs) p' 0 bs in
@@ -166,14 +166,14 @@ module _ {L V : Type 0} where
 
       filter_p : peek (λ b. b.filter) 0 es' p' ≡ bit_or (peek (λ b. b.filter) 0 bs p') (mask_of (kind.spread n))
       filter_p =
-          peek_modify_map (λ b. b.filter) 0 (moved_out (mask_of (kind.spread n))) (λ z. bit_or z (mask_of (kind.spread n))) cs p' within_cs (λ b. refl)
+          peek_modify_map (λ b. b.filter) 0 (counted_out (mask_of (kind.spread n))) (λ z. bit_or z (mask_of (kind.spread n))) cs p' within_cs (λ b. refl)
           ∙ ap (λ z. bit_or z (mask_of (kind.spread n))) (cs_filter p')
 
       moved_q : (q : ℕ) → (q ≡ p' → ⊥) → peek (λ b. b.moved) 0 es' q ≡ peek (λ b. b.moved) 0 bs q
-      moved_q q ne = peek_modify_other (λ b. b.moved) 0 (moved_out (mask_of (kind.spread n))) cs p' q ne ∙ cs_moved q
+      moved_q q ne = peek_modify_other (λ b. b.moved) 0 (counted_out (mask_of (kind.spread n))) cs p' q ne ∙ cs_moved q
 
       filter_q : (q : ℕ) → (q ≡ p' → ⊥) → peek (λ b. b.filter) 0 es' q ≡ peek (λ b. b.filter) 0 bs q
-      filter_q q ne = peek_modify_other (λ b. b.filter) 0 (moved_out (mask_of (kind.spread n))) cs p' q ne ∙ cs_filter q
+      filter_q q ne = peek_modify_other (λ b. b.filter) 0 (counted_out (mask_of (kind.spread n))) cs p' q ne ∙ cs_filter q
 
       one_p : mover kind (length bs) p' i ns ≡ 1
       one_p = mover_one kind (length bs) p' ns n i (refl, en) refl (λ e. away (sym e))
@@ -199,9 +199,9 @@ module _ {L V : Type 0} where
           (λ ne. eq-eqb _ (mask_of (kind.spread n)) (ap (λ z. bit_and z (mask_of (kind.spread n))) filter_p ∙ and_or_self (mask_of (kind.spread n)) (peek (λ b. b.filter) 0 bs p')))
 
     pub occupy_sound : Sound kind (occupied kind bs n i k lab v)
-    occupy_sound = at_both_by (Sound kind) (filled k ns) (moved_out (mask_of (kind.spread n))) bs i p' occupy_same occupy_two
+    occupy_sound = at_both_by (Sound kind) (filled k ns) (counted_out (mask_of (kind.spread n))) bs i p' occupy_same occupy_two
 
     pub occupy_look : (m : ℕ) → look kind (occupied kind bs n i k lab v) m ≡ cond (eqb m n) (Some v) (look kind bs m)
     occupy_look m =
-        at_both_by (λ z. look kind z m ≡ cond (eqb m n) (Some v) (look kind bs m)) (filled k ns) (moved_out (mask_of (kind.spread n))) bs i p'
+        at_both_by (λ z. look kind z m ≡ cond (eqb m n) (Some v) (look kind bs m)) (filled k ns) (counted_out (mask_of (kind.spread n))) bs i p'
         (λ e. look_by cs (length_modify (filled k ns) bs i) (λ j m d. refl) (occupy_same e) m) (λ ne. look_by (es' ne) (len_es ne) (slots_es ne) (occupy_two ne) m)

@@ -3,12 +3,12 @@ use Rattle.std.proofs.Common.{◌≡◌, ℕ, zero, suc, ◌+◌, ◌-◌, ◌<�
 use Rattle.std.proofs.lemmas.List.{get_or_default}
 use Rattle.std.proofs.lemmas.Bool.{and_from, cases_eq, cond-false, cond-true, eq-eqb, eqb-false, eqb-true, ne_eqb, true≢false}
 use Rattle.label.specs.declared.Label.{Ghosts}
-use Rattle.bucket.specs.Changes.{freed, modify, moved_back, peek, unused}
+use Rattle.bucket.specs.Changes.{freed, modify, counted_back, peek, unused}
 use Rattle.bucket.specs.Slots.{Has, slot_of, with_slot}
 use Rattle.bucket.specs.Spread.{contains, mask_of}
 use Rattle.bucket.specs.declared.slots.Bucket.{Bucket}
 use Rattle.bucket.specs.declared.slots.Slot.{Slot}
-use Rattle.bucket.proofs.Changed.{moved_back_slots, slot_with_same, with_filter, with_moved}
+use Rattle.bucket.proofs.Changed.{counted_back_slots, slot_with_same, with_filter, with_moved}
 use Rattle.bucket.proofs.Lists.{get_or_modify_same, length_modify, peek_modify_here, peek_modify_keep, peek_modify_other, peek_read}
 use Rattle.bucket.proofs.Sizes.{first_below}
 use Rattle.table.specs.Moving.{vacated}
@@ -164,13 +164,13 @@ module _ {L V : Type 0} where
     -- it lay elsewhere
     module _ (away : p' ≡ i → ⊥) where
       abbrev es' : List (Bucket L V)
-      es' = modify moved_back cs p'
+      es' = modify counted_back cs p'
 
       abbrev y : Bucket L V
       y = get_or cs p' x
 
       len_es : length es' ≡ length bs
-      len_es = length_modify moved_back cs p' ∙ length_modify (freed k) bs i
+      len_es = length_modify counted_back cs p' ∙ length_modify (freed k) bs i
 
       within : p' < length bs
       within = first_below (kind.spread n) (length bs) (let a = l.0 in omega arith)
@@ -182,28 +182,28 @@ module _ {L V : Type 0} where
       y_is = get_or_default cs p' x y within_cs
 
       slots_es : (j m : ℕ) (d : Bucket L V) → slot_of (get_or es' j d) m ≡ slot_of (get_or cs j d) m
-      slots_es j m d = slots_modify ◌≡◌ (λ s. refl) moved_back moved_back_slots cs p' j m d
+      slots_es j m d = slots_modify ◌≡◌ (λ s. refl) counted_back counted_back_slots cs p' j m d
 
       movers_es : (q : ℕ) → movers kind (length bs) q 0 es' ≡ movers kind (length bs) q 0 cs
-      movers_es q = movers_keep kind (length bs) q moved_back (λ b j. refl) cs 0 p'
+      movers_es q = movers_keep kind (length bs) q counted_back (λ b j. refl) cs 0 p'
 
       y_moved : y.moved ≡ movers kind (length bs) p' 0 cs + 1
       y_moved = sym (peek_read (λ b. b.moved) 0 cs p' y within_cs y_is) ∙ cs_moved p' ∙ sound.counts p' within ∙ sym (cs_outs p') ∙ ap (λ z. movers kind (length bs) p' 0 cs + z) (mover_one kind (length bs) p' (slot_of x k) n i has_x refl (λ e. away (sym e)))
 
       moved_p : peek (λ b. b.moved) 0 es' p' ≡ y.moved - 1
-      moved_p = peek_modify_here (λ b. b.moved) 0 moved_back cs p' y within_cs y_is
+      moved_p = peek_modify_here (λ b. b.moved) 0 counted_back cs p' y within_cs y_is
 
       filter_p : peek (λ b. b.filter) 0 es' p' ≡ cond (eqb (y.moved - 1) 0) 0 y.filter
-      filter_p = peek_modify_here (λ b. b.filter) 0 moved_back cs p' y within_cs y_is
+      filter_p = peek_modify_here (λ b. b.filter) 0 counted_back cs p' y within_cs y_is
 
       counts_p : peek (λ b. b.moved) 0 es' p' ≡ movers kind (length bs) p' 0 es'
       counts_p = let a = moved_p in let b = y_moved in let c = movers_es p' in omega arith
 
       moved_q : (q : ℕ) → (q ≡ p' → ⊥) → peek (λ b. b.moved) 0 es' q ≡ peek (λ b. b.moved) 0 bs q
-      moved_q q ne = peek_modify_other (λ b. b.moved) 0 moved_back cs p' q ne ∙ cs_moved q
+      moved_q q ne = peek_modify_other (λ b. b.moved) 0 counted_back cs p' q ne ∙ cs_moved q
 
       filter_q : (q : ℕ) → (q ≡ p' → ⊥) → peek (λ b. b.filter) 0 es' q ≡ peek (λ b. b.filter) 0 bs q
-      filter_q q ne = peek_modify_other (λ b. b.filter) 0 moved_back cs p' q ne ∙ cs_filter q
+      filter_q q ne = peek_modify_other (λ b. b.filter) 0 counted_back cs p' q ne ∙ cs_filter q
 
       none_q : (q : ℕ) → (q ≡ p' → ⊥) → mover kind (length bs) q i (slot_of x k) ≡ 0
       none_q q ne = mover_apart kind (length bs) q (slot_of x k) n i has_x.1 ne
@@ -230,9 +230,9 @@ module _ {L V : Type 0} where
           (λ m j t h ne. ⊎_elim (λ e. subst (λ z. contains (peek (λ b. b.filter) 0 es' z) (mask_of (kind.spread m)) ≡ true) (sym e) (masked_p m j t h e (λ w. ne (w ∙ sym e)))) (λ w. subst (λ z. contains z (mask_of (kind.spread m)) ≡ true) (sym (filter_q _ w)) (sound.masked m j t (lies_old es' len_es slots_es m j t h) ne)) (cases_eq (first_of kind (length bs) m) p'))
 
     pub vacate_sound : Sound kind (vacated kind bs n i k)
-    vacate_sound = at_both_by (Sound kind) (freed k) moved_back bs i p' vacate_same vacate_two
+    vacate_sound = at_both_by (Sound kind) (freed k) counted_back bs i p' vacate_same vacate_two
 
     pub vacate_look : (m : ℕ) → look kind (vacated kind bs n i k) m ≡ cond (eqb m n) None (look kind bs m)
     vacate_look m =
-        at_both_by (λ z. look kind z m ≡ cond (eqb m n) None (look kind bs m)) (freed k) moved_back bs i p'
+        at_both_by (λ z. look kind z m ≡ cond (eqb m n) None (look kind bs m)) (freed k) counted_back bs i p'
         (λ e. look_by cs (length_modify (freed k) bs i) (λ j m d. refl) (vacate_same e) m) (λ ne. look_by (es' ne) (len_es ne) (slots_es ne) (vacate_two ne) m)

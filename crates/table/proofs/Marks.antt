@@ -2,13 +2,13 @@
 use Rattle.std.proofs.Common.{◌≡◌, ℕ, zero, suc, true, List, [], ◌∷◌, length, Some, None, Option, sym, refl, ap, ◌∙◌, ⊎_elim}
 use Rattle.std.proofs.lemmas.Bool.{cases_eq}
 use Rattle.label.specs.declared.Label.{Ghosts}
-use Rattle.bucket.specs.Changes.{blank_mark, filled, freed, modify, moved_back, moved_out, repaid, with_mark}
+use Rattle.bucket.specs.Changes.{blank_mark, filled, freed, modify, counted_back, counted_out, with_payload, with_mark}
 use Rattle.bucket.specs.Slots.{slot_of, with_slot}
 use Rattle.bucket.specs.Spread.{mask_of, tag_of}
 use Rattle.bucket.specs.declared.slots.Bucket.{Bucket}
 use Rattle.bucket.specs.declared.slots.Slot.{Slot}
 use Rattle.bucket.proofs.Changed.{by_slot, with_mark_slots}
-use Rattle.table.specs.Moving.{at_both, given, occupied, relocated, slot_in, vacated}
+use Rattle.table.specs.Moving.{at_both, if_some, occupied, relocated, slot_in, vacated}
 use Rattle.table.specs.Tables.{first_of, unmarked}
 use Rattle.table.proofs.Alike.{length_unmarked, peek_unmarked}
 use Rattle.table.proofs.Both.{at_both_same, at_both_two}
@@ -27,26 +27,26 @@ module _ {L V : Type 0} where
   with_remark : (b : Bucket L V) (k : ℕ) (s : Slot L V) → with_mark blank_mark (with_slot b k s) ≡ with_slot (with_mark blank_mark b) k s
   with_remark b k s = by_slot (λ k. with_mark blank_mark (with_slot b k s) ≡ with_slot (with_mark blank_mark b) k s) refl refl refl (λ k. refl) k
 
-  repaid_remark : (k : ℕ) (v : V) (b : Bucket L V) → with_mark blank_mark (repaid k v b) ≡ repaid k v (with_mark blank_mark b)
-  repaid_remark k v b = by_slot (λ k. with_mark blank_mark (repaid k v b) ≡ repaid k v (with_mark blank_mark b)) refl refl refl (λ k. refl) k
+  with_payload_remark : (k : ℕ) (v : V) (b : Bucket L V) → with_mark blank_mark (with_payload k v b) ≡ with_payload k v (with_mark blank_mark b)
+  with_payload_remark k v b = by_slot (λ k. with_mark blank_mark (with_payload k v b) ≡ with_payload k v (with_mark blank_mark b)) refl refl refl (λ k. refl) k
 
   freed_remark : (k : ℕ) (b : Bucket L V) → with_mark blank_mark (freed k b) ≡ freed k (with_mark blank_mark b)
   freed_remark k b = by_slot (λ k. with_mark blank_mark (freed k b) ≡ freed k (with_mark blank_mark b)) refl refl refl (λ k. refl) k
 
   unmarked_vacated : (kind : Ghosts L) (bs : List (Bucket L V)) (n i k : ℕ) → unmarked (vacated kind bs n i k) ≡ vacated kind (unmarked bs) n i k
   unmarked_vacated kind bs n i k =
-      rest_at_both (freed k) moved_back (freed_remark k) (λ b. refl) bs i (first_of kind (length bs) n)
-      ∙ ap (λ z. at_both (freed k) moved_back (unmarked bs) i (first_of kind z n)) (sym (length_unmarked bs))
+      rest_at_both (freed k) counted_back (freed_remark k) (λ b. refl) bs i (first_of kind (length bs) n)
+      ∙ ap (λ z. at_both (freed k) counted_back (unmarked bs) i (first_of kind z n)) (sym (length_unmarked bs))
 
   unmarked_occupied : (kind : Ghosts L) (bs : List (Bucket L V)) (n i k : ℕ) (l : L) (v : V) → unmarked (occupied kind bs n i k l v) ≡ occupied kind (unmarked bs) n i k l v
   unmarked_occupied kind bs n i k l v =
-      rest_at_both (filled k (record { used = true; tag = tag_of (kind.spread n); label = l; payload = v })) (moved_out (mask_of (kind.spread n))) (λ b. with_remark b k _) (λ b. refl) bs i (first_of kind (length bs) n)
-      ∙ ap (λ z. at_both (filled k (record { used = true; tag = tag_of (kind.spread n); label = l; payload = v })) (moved_out (mask_of (kind.spread n))) (unmarked bs) i (first_of kind z n)) (sym (length_unmarked bs))
+      rest_at_both (filled k (record { used = true; tag = tag_of (kind.spread n); label = l; payload = v })) (counted_out (mask_of (kind.spread n))) (λ b. with_remark b k _) (λ b. refl) bs i (first_of kind (length bs) n)
+      ∙ ap (λ z. at_both (filled k (record { used = true; tag = tag_of (kind.spread n); label = l; payload = v })) (counted_out (mask_of (kind.spread n))) (unmarked bs) i (first_of kind z n)) (sym (length_unmarked bs))
 
   -- ---- a table with no marks has none after the change
 
-  pub rest_repaid : (bs : List (Bucket L V)) (i k : ℕ) (v : V) → unmarked bs ≡ bs → unmarked (modify (repaid k v) bs i) ≡ modify (repaid k v) bs i
-  rest_repaid bs i k v h = rest_modify (repaid k v) (repaid_remark k v) bs i ∙ ap (λ z. modify (repaid k v) z i) h
+  pub rest_with_payload : (bs : List (Bucket L V)) (i k : ℕ) (v : V) → unmarked bs ≡ bs → unmarked (modify (with_payload k v) bs i) ≡ modify (with_payload k v) bs i
+  rest_with_payload bs i k v h = rest_modify (with_payload k v) (with_payload_remark k v) bs i ∙ ap (λ z. modify (with_payload k v) z i) h
 
   pub rest_occupied : (kind : Ghosts L) (bs : List (Bucket L V)) (n i k : ℕ) (l : L) (v : V) → unmarked bs ≡ bs → unmarked (occupied kind bs n i k l v) ≡ occupied kind bs n i k l v
   rest_occupied kind bs n i k l v h = unmarked_occupied kind bs n i k l v ∙ ap (λ z. occupied kind z n i k l v) h
@@ -58,12 +58,12 @@ module _ {L V : Type 0} where
   unfolding relocated
   unmarked_relocated kind bs a j b k =
       by_slot (slot_in bs a j)
-      ∙ ap (λ o. given o (λ s. occupied kind (vacated kind (unmarked bs) (kind.number s.label) a j) (kind.number s.label) b k s.label s.payload) (unmarked bs))
+      ∙ ap (λ o. if_some o (λ s. occupied kind (vacated kind (unmarked bs) (kind.number s.label) a j) (kind.number s.label) b k s.label s.payload) (unmarked bs))
       (sym (peek_unmarked (λ z. Some (slot_of z j)) None bs a (λ z. ap Some (with_mark_slots blank_mark z j))))
     where
       by_slot : (o : Option (Slot L V))
-          → unmarked (given o (λ s. occupied kind (vacated kind bs (kind.number s.label) a j) (kind.number s.label) b k s.label s.payload) bs)
-          ≡ given o (λ s. occupied kind (vacated kind (unmarked bs) (kind.number s.label) a j) (kind.number s.label) b k s.label s.payload) (unmarked bs)
+          → unmarked (if_some o (λ s. occupied kind (vacated kind bs (kind.number s.label) a j) (kind.number s.label) b k s.label s.payload) bs)
+          ≡ if_some o (λ s. occupied kind (vacated kind (unmarked bs) (kind.number s.label) a j) (kind.number s.label) b k s.label s.payload) (unmarked bs)
       by_slot None = refl
       by_slot (Some s) =
           unmarked_occupied kind (vacated kind bs (kind.number s.label) a j) (kind.number s.label) b k s.label s.payload

@@ -8,9 +8,9 @@ use Rattle.bucket.specs.Spread.{mask_of}
 use Rattle.bucket.specs.declared.slots.Bucket.{Bucket}
 use Rattle.bucket.specs.declared.slots.Mark.{Mark}
 use Rattle.bucket.specs.declared.slots.Slot.{Slot}
-use Rattle.bucket.proofs.Changed.{moved_back_slots, moved_out_slots, slot_with_same, with_slot_mark}
+use Rattle.bucket.proofs.Changed.{counted_back_slots, counted_out_slots, slot_with_same, with_slot_mark}
 use Rattle.bucket.proofs.Lists.{peek_read, pick}
-use Rattle.table.specs.Moving.{Movable, Moves, given, occupied, other_of, relocated, slot_in, used_at, vacated}
+use Rattle.table.specs.Moving.{Movable, Moves, if_some, occupied, other_of, relocated, slot_in, used_at, vacated}
 use Rattle.table.specs.Tables.{Lies, Nowhere, Sound, first_of, look, second_of}
 use Rattle.table.proofs.Both.{length_at_both, peek_edit_here, peek_edit_keep, peek_edit_other}
 use Rattle.table.proofs.Coming.{occupy_look, occupy_sound}
@@ -46,7 +46,7 @@ module _ {L V : Type 0} where
 
     relocated_es : relocated kind bs a j b k ≡ es
     unfolding relocated
-    relocated_es = ap (λ o. given o (λ s. occupied kind (vacated kind bs (kind.number s.label) a j) (kind.number s.label) b k s.label s.payload) bs) (peek_read (λ z. Some (slot_of z j)) None bs a x lt x_is)
+    relocated_es = ap (λ o. if_some o (λ s. occupied kind (vacated kind bs (kind.number s.label) a j) (kind.number s.label) b k s.label s.payload) bs) (peek_read (λ z. Some (slot_of z j)) None bs a x lt x_is)
 
     pub relocate_length : length (relocated kind bs a j b k) ≡ length bs
     relocate_length = ap length relocated_es ∙ length_at_both _ _ cs b _ ∙ len_cs
@@ -61,8 +61,8 @@ module _ {L V : Type 0} where
     pub relocate_slot : {Y : Type 0} (h : Slot L V → Y) (e : Y) (q t : ℕ) → (q ≡ a → ⊥) → (q ≡ b → ⊥) → peek (λ z. h (slot_of z t)) e (relocated kind bs a j b k) q ≡ peek (λ z. h (slot_of z t)) e bs q
     relocate_slot h e q t na nb =
         ap (λ z. peek (λ w. h (slot_of w t)) e z q) relocated_es
-        ∙ peek_edit_other (λ z. h (slot_of z t)) e _ _ cs b _ q nb (λ z. ap h (moved_out_slots (mask_of (kind.spread n)) z t))
-        ∙ peek_edit_other (λ z. h (slot_of z t)) e _ _ bs a _ q na (λ z. ap h (moved_back_slots z t))
+        ∙ peek_edit_other (λ z. h (slot_of z t)) e _ _ cs b _ q nb (λ z. ap h (counted_out_slots (mask_of (kind.spread n)) z t))
+        ∙ peek_edit_other (λ z. h (slot_of z t)) e _ _ bs a _ q na (λ z. ap h (counted_back_slots z t))
 
     module _ (r : Movable kind bs a j b k) where
       lt_b : b < length cs
@@ -71,8 +71,8 @@ module _ {L V : Type 0} where
       pub relocate_free : used_at (relocated kind bs a j b k) a j ≡ false
       relocate_free =
           ap (λ z. used_at z a j) relocated_es
-          ∙ peek_edit_other (λ z. (slot_of z j).used) false _ _ cs b _ a r.apart (λ z. ap (λ w. w.used) (moved_out_slots (mask_of (kind.spread n)) z j))
-          ∙ peek_edit_here (λ z. (slot_of z j).used) false _ _ bs a _ false lt (λ z. ap (λ w. w.used) (slot_with_same z j (unused (slot_of z j)))) (λ z. ap (λ w. w.used) (moved_back_slots z j))
+          ∙ peek_edit_other (λ z. (slot_of z j).used) false _ _ cs b _ a r.apart (λ z. ap (λ w. w.used) (counted_out_slots (mask_of (kind.spread n)) z j))
+          ∙ peek_edit_here (λ z. (slot_of z j).used) false _ _ bs a _ false lt (λ z. ap (λ w. w.used) (slot_with_same z j (unused (slot_of z j)))) (λ z. ap (λ w. w.used) (counted_back_slots z j))
 
       module _ (sound : Sound kind bs) (small : length bs ≤ 4096) where
         small_cs : length cs ≤ 4096
@@ -97,7 +97,7 @@ module _ {L V : Type 0} where
         y_is = (pick cs b lt_b).1
 
         free_cs : used_at cs b k ≡ false
-        free_cs = peek_edit_other (λ z. (slot_of z k).used) false _ _ bs a _ b (λ e. r.apart (sym e)) (λ z. ap (λ w. w.used) (moved_back_slots z k)) ∙ r.free
+        free_cs = peek_edit_other (λ z. (slot_of z k).used) false _ _ bs a _ b (λ e. r.apart (sym e)) (λ z. ap (λ w. w.used) (counted_back_slots z k)) ∙ r.free
 
         home : (b ≡ first_of kind (length cs) n) ⊎ (b ≡ second_of kind (length cs) n)
         home =
@@ -134,4 +134,4 @@ module _ {L V : Type 0} where
   relocate_area kind bs a j b k lt s es slot area =
       let x = pick bs a lt in
       let here : slot_in bs a j ≡ Some s = peek_read (λ z. Some (slot_of z j)) None bs a x.0 lt x.1 ∙ ap (λ z. Some (slot_of z j)) x.1 ∙ ap Some (sym (slot x.0)) in
-      area ∙ sym (ap (λ o. given o (λ s. occupied kind (vacated kind bs (kind.number s.label) a j) (kind.number s.label) b k s.label s.payload) bs) here)
+      area ∙ sym (ap (λ o. if_some o (λ s. occupied kind (vacated kind bs (kind.number s.label) a j) (kind.number s.label) b k s.label s.payload) bs) here)

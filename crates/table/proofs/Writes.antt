@@ -2,7 +2,7 @@
 -- the writes that change two buckets, or one
 use Rattle.std.proofs.Common.{◌≡◌, ℕ, true, List, length, get_or, set, sym, ap, ◌∙◌}
 use Rattle.label.specs.declared.Label.{Ghosts}
-use Rattle.bucket.specs.Changes.{filled, freed, modify, moved_back, moved_out}
+use Rattle.bucket.specs.Changes.{filled, freed, modify, counted_back, counted_out}
 use Rattle.bucket.specs.Slots.{with_slot}
 use Rattle.bucket.specs.Spread.{first, mask_of, tag_of}
 use Rattle.bucket.specs.declared.slots.Bucket.{Bucket}
@@ -26,10 +26,10 @@ module _ {L V : Type 0} (bs : List (Bucket L V)) (i k : ℕ) where
 
     module _ (x y : Bucket L V) (ey : y ≡ freed k (get_or bs i x)) where
       pub vacated_one : p ≡ i → set bs i y ≡ vacated kind bs (kind.number l) i k
-      vacated_one is = one_write (freed k) moved_back bs i p _ x y ey is first_is
+      vacated_one is = one_write (freed k) counted_back bs i p _ x y ey is first_is
 
-      pub vacated_two : (w z : Bucket L V) → z ≡ moved_back (get_or (set bs i y) p w) → (p ≡ i → ⊥) → set (set bs i y) p z ≡ vacated kind bs (kind.number l) i k
-      vacated_two w z ez ne = both_writes (freed k) moved_back bs i p _ x w y z ey ez ne first_is
+      pub vacated_two : (w z : Bucket L V) → z ≡ counted_back (get_or (set bs i y) p w) → (p ≡ i → ⊥) → set (set bs i y) p z ≡ vacated kind bs (kind.number l) i k
+      vacated_two w z ez ne = both_writes (freed k) counted_back bs i p _ x w y z ey ez ne first_is
 
     module _ (v : V) (t : ℕ) (et : t ≡ tag_of d) (x y : Bucket L V) (ey : y ≡ with_slot (get_or bs i x) k (record { used = true; tag = t; label = l; payload = v })) where
       abbrev new : Slot L V
@@ -41,7 +41,7 @@ module _ {L V : Type 0} (bs : List (Bucket L V)) (i k : ℕ) where
       pub occupied_one : p ≡ i → set bs i y ≡ occupied kind bs (kind.number l) i k l v
       occupied_one is = one_write (filled k new) _ bs i p _ x y y_is is first_is
 
-      pub occupied_two : (m : ℕ) (w z : Bucket L V) → m ≡ mask_of d → z ≡ moved_out m (get_or (set bs i y) p w) → (p ≡ i → ⊥) → set (set bs i y) p z ≡ occupied kind bs (kind.number l) i k l v
+      pub occupied_two : (m : ℕ) (w z : Bucket L V) → m ≡ mask_of d → z ≡ counted_out m (get_or (set bs i y) p w) → (p ≡ i → ⊥) → set (set bs i y) p z ≡ occupied kind bs (kind.number l) i k l v
       occupied_two m w z em ez ne =
-          both_writes (filled k new) (moved_out (mask_of (kind.spread (kind.number l)))) bs i p _ x w y z y_is
-          (ez ∙ ap (λ m. moved_out m (get_or (set bs i y) p w)) (em ∙ ap mask_of ed)) ne first_is
+          both_writes (filled k new) (counted_out (mask_of (kind.spread (kind.number l)))) bs i p _ x w y z y_is
+          (ez ∙ ap (λ m. counted_out m (get_or (set bs i y) p w)) (em ∙ ap mask_of ed)) ne first_is

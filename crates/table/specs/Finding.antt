@@ -3,6 +3,7 @@
 --   Misses kind bs n i    no slot of bucket i is so
 --   Asked kind bs n       the filter of n's first bucket lets a find go on to the second
 --   Looks kind bs n o c   the rule of find: the slot o, if any, and the number c of buckets read
+--   Payload kind bs n o c  the same for the payload o of that slot
 --   Finds kind bs n r     what a find answers, over areas of right and of wrong size
 -- Assumes nothing.
 use Rattle.std.specs.Prelude.{◌≡◌, ℕ, ◌<◌, true, false, ◌⊎◌, List, length, Some, None, Option, ◌≢◌, slice_index_or}

@@ -3,6 +3,8 @@
 --   vacated kind bs n i k        slot k of bucket i, which has n, becomes unused
 --   occupied kind bs n i k l v   slot k of bucket i gets the label l of number n, with the payload v
 --   used_at bs i k        whether slot k of bucket i is used
+--   slot_in bs i k        that slot, if the bucket is there
+--   if_some o f y         f of what o has, and y if it has nothing
 --   other_of, other_at    the other bucket of a slot's label
 --   relocated kind bs a j b k    the label of slot j of bucket a lies in slot k of bucket b
 --   Movable kind bs a j b k      b is the other bucket of that label, and slot k of it is unused
@@ -16,7 +18,7 @@ use Rattle.bucket.specs.declared.slots.Slot.{Slot}
 use Rattle.bucket.specs.declared.slots.Bucket.{Bucket}
 use Rattle.bucket.specs.Spread.{tag_of, mask_of}
 use Rattle.bucket.specs.Slots.{slot_of}
-use Rattle.bucket.specs.Changes.{modify, peek, filled, freed, moved_out, moved_back}
+use Rattle.bucket.specs.Changes.{modify, peek, filled, freed, counted_out, counted_back}
 use Rattle.table.specs.Tables.{live, first_of, second_of, look, Lies, Nowhere, Sound, WellKept}
 
 unfoldable pub at_both : {X : Type 0} → (X → X) → (X → X) → List X → ℕ → ℕ → List X
@@ -29,17 +31,17 @@ module _ {L V : Type 0} where
   abbrev pub slot_in : List (Bucket L V) → ℕ → ℕ → Option (Slot L V)
   slot_in bs i k = peek (λ b. Some (slot_of b k)) None bs i
 
-abbrev pub given : {X Y : Type 0} → Option X → (X → Y) → Y → Y
-given None f y = y
-given (Some x) f y = f x
+abbrev pub if_some : {X Y : Type 0} → Option X → (X → Y) → Y → Y
+if_some None f y = y
+if_some (Some x) f y = f x
 
 module _ {L V : Type 0} (kind : Ghosts L) where
   abbrev pub vacated : List (Bucket L V) → ℕ → ℕ → ℕ → List (Bucket L V)
-  vacated bs n i k = at_both (freed k) moved_back bs i (first_of kind (length bs) n)
+  vacated bs n i k = at_both (freed k) counted_back bs i (first_of kind (length bs) n)
 
   abbrev pub occupied : List (Bucket L V) → ℕ → ℕ → ℕ → L → V → List (Bucket L V)
   occupied bs n i k l v =
-      at_both (filled k (record { used = true; tag = tag_of (kind.spread n); label = l; payload = v })) (moved_out (mask_of (kind.spread n))) bs i (first_of kind (length bs) n)
+      at_both (filled k (record { used = true; tag = tag_of (kind.spread n); label = l; payload = v })) (counted_out (mask_of (kind.spread n))) bs i (first_of kind (length bs) n)
 
   -- of a label that lies in bucket i, among b buckets
   abbrev pub other_of : ℕ → ℕ → Slot L V → ℕ
@@ -52,7 +54,7 @@ module _ {L V : Type 0} (kind : Ghosts L) where
   -- leaving a, then coming to b
   unfoldable pub relocated : List (Bucket L V) → ℕ → ℕ → ℕ → ℕ → List (Bucket L V)
   relocated bs a j b k =
-      given (slot_in bs a j) (λ s. occupied (vacated bs (kind.number s.label) a j) (kind.number s.label) b k s.label s.payload) bs
+      if_some (slot_in bs a j) (λ s. occupied (vacated bs (kind.number s.label) a j) (kind.number s.label) b k s.label s.payload) bs
 
   pub record Movable (bs : List (Bucket L V)) (a j b k : ℕ) : Type 0 where
     pub from_bucket : a < length bs

@@ -1,6 +1,7 @@
 -- A table: a list of buckets. What it means, and when it is well kept. kind is the kind of its labels, n the number of a label, i a bucket, k a slot.
 --   live bs            the buckets that count: all, or none of an area of wrong size
 --   first_of, second_of kind b n   the first and the second bucket of n among b buckets
+--   or_else o p        o, or p if o has nothing
 --   hit, hit_in        the payload of n in a slot, in a bucket
 --   look kind bs n     the payload that the table pairs with n
 --   Lies kind bs n i k slot k of bucket i is used and has n

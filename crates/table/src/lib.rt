@@ -7,5 +7,5 @@ mod moving;
 mod taking;
 
 pub use finding::{Found, Spot, find, locate};
-pub use moving::{occupy, relocate, repay};
+pub use moving::{occupy, relocate, replace_payload};
 pub use taking::take;

@@ -2,7 +2,7 @@
 ghost use Rattle.std.specs.Prelude.{◌≡◌, ℕ, ◌<◌, ◌≤◌, length, slice_index_or};
 ghost use Rattle.bucket.specs.Spread.{Allowed};
 ghost use Rattle.bucket.specs.Slots.{slot_of};
-ghost use Rattle.bucket.specs.Changes.{modify, repaid};
+ghost use Rattle.bucket.specs.Changes.{modify, with_payload};
 ghost use Rattle.bucket.specs.declared.slots.Bucket.{Bucket};
 ghost use Rattle.table.specs.Tables.{Sound};
 ghost use Rattle.table.specs.Moving.{vacated, occupied, relocated, Movable, Moves};
@@ -22,7 +22,7 @@ pub(crate) fn vacate<L: Label, V: Copy>(buckets: &mut [Bucket<L, V>], spot: Spot
     let (first, _) = pair(slot.label.digest(), buckets.len());
     buckets[spot.bucket].free(spot.slot);
     if first != spot.bucket {
-        buckets[first].move_back();
+        buckets[first].count_back();
     }
     slot
 }
@@ -37,7 +37,7 @@ pub fn occupy<L: Label, V: Copy>(buckets: &mut [Bucket<L, V>], spot: Spot, label
     let (first, _) = pair(digest, buckets.len());
     buckets[spot.bucket].fill(spot.slot, Slot::holding(tag(digest), label, payload));
     if first != spot.bucket {
-        buckets[first].move_out(mask(digest));
+        buckets[first].count_out(mask(digest));
     }
 }
 
@@ -64,12 +64,12 @@ pub fn relocate<L: Label, V: Copy>(buckets: &mut [Bucket<L, V>], from: Spot, to:
 }
 
 // Replaces the payload of a slot, and answers the old one.
-pub fn repay<L: Label, V: Copy>(buckets: &mut [Bucket<L, V>], spot: Spot, payload: V) -> V
+pub fn replace_payload<L: Label, V: Copy>(buckets: &mut [Bucket<L, V>], spot: Spot, payload: V) -> V
     requires { spot.bucket < length buckets.old }
     ensures old { (d : Bucket L V) → result ≡ (slot_of (slice_index_or buckets.old spot.bucket d) spot.slot).payload }
-    ensures area { buckets.new ≡ modify (repaid spot.slot payload) buckets.old spot.bucket }
+    ensures area { buckets.new ≡ modify (with_payload spot.slot payload) buckets.old spot.bucket }
 {
     let old = payload_at(buckets, spot);
-    buckets[spot.bucket].repay(spot.slot, payload);
+    buckets[spot.bucket].replace_payload(spot.slot, payload);
     old
 }

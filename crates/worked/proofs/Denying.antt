@@ -11,7 +11,7 @@ use Rattle.table.specs.Moving.{at_both, other_at, relocated, used_at}
 use Rattle.table.specs.Tables.{WellKept, live, look}
 use Rattle.insertion.specs.Putting.{Puts}
 use Rattle.insertion.specs.declared.storing.Stored.{Stored}
-use Rattle.worked.specs.Cases.{Denies, old}
+use Rattle.worked.specs.Cases.{PutDenied, old}
 use Rattle.worked.proofs.Direct.{a5, filled_a5, full_a5, kept_a5, other_a5}
 use Rattle.worked.proofs.Moving.{b5, filled_b5, full_b5, kept_b5, other_b5}
 use Rattle.worked.proofs.Outcomes.{denied, one_outcome_holds, past_first, places}
@@ -28,9 +28,9 @@ module _ {V : Type 0} where
         rw two (past_first old_line bs 1 1 0 (omega arith) (omega arith) (omega arith) (inl (refl, refl)) full (λ i few. (0, omega arith, other i few, λ h. absurd (omega arith))) (λ h. absurd (omega arith))),
       ) r gs puts
 
-  pub denies_hold : (b c : Bucket OldBlock V) (u v w x y : V) → Denies b c u v w x y
+  pub put_denied_holds : (b c : Bucket OldBlock V) (u v w x y : V) → PutDenied b c u v w x y
   unfolding pair_of old_digest rotated at_both relocated
-  denies_hold b c u v w x y rs es gs z r filled puts =
+  put_denied_holds b c u v w x y rs es gs z r filled puts =
       ⊎_elim
       (λ f.
       let table = (one_outcome_holds _ _ _ _ _ _ f (filled_a5 b c u v w x y)).1 in

@@ -12,7 +12,7 @@ use Rattle.insertion.specs.Chain.{start}
 use Rattle.insertion.specs.Putting.{Puts}
 use Rattle.insertion.specs.declared.storing.Stored.TheVariants.{Added}
 use Rattle.bucket_map.proofs.Fresh.{live_kept}
-use Rattle.worked.specs.Cases.{Filled, Places, done, empty, evens_first, old, put}
+use Rattle.worked.specs.Cases.{Filled, PutAside, done, empty, evens_first, old, put}
 use Rattle.worked.proofs.Outcomes.{at_once, by_list, past_first, places}
 use Rattle.worked.proofs.Slots.{below, each, two_allowed}
 
@@ -100,6 +100,6 @@ module _ {V : Type 0} (b c : Bucket OldBlock V) where
     filled_a5 =
         put _ _ _ _ _ _ _ _ put_0 (put _ _ _ _ _ _ _ _ put_2 (put _ _ _ _ _ _ _ _ put_4 (put _ _ _ _ _ _ _ _ put_6 (put _ _ _ _ _ _ _ _ put_256 (done _)))))
 
-    pub places_hold : Places b c u v w x y
+    pub put_aside_holds : PutAside b c u v w x y
     unfolding pair_of old_digest rotated at_both
-    places_hold = (a5 u v w x y, filled_a5, (omega arith, omega arith, λ d. (refl, refl)), (refl, refl))
+    put_aside_holds = (a5 u v w x y, filled_a5, (omega arith, omega arith, λ d. (refl, refl)), (refl, refl))

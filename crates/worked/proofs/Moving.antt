@@ -12,7 +12,7 @@ use Rattle.insertion.specs.Chain.{move, start}
 use Rattle.insertion.specs.Putting.{Puts}
 use Rattle.insertion.specs.declared.storing.Stored.TheVariants.{Added}
 use Rattle.bucket_map.proofs.Fresh.{live_kept}
-use Rattle.worked.specs.Cases.{Filled, Moves, done, empty, evens_last, old, put}
+use Rattle.worked.specs.Cases.{Filled, PutWithMove, done, empty, evens_last, old, put}
 use Rattle.worked.proofs.Outcomes.{at_once, by_list, past_first, places}
 use Rattle.worked.proofs.Slots.{below, each, two_allowed}
 
@@ -101,9 +101,9 @@ module _ {V : Type 0} (b c : Bucket OldBlock V) where
     filled_b5 =
         put _ _ _ _ _ _ _ _ put_256 (put _ _ _ _ _ _ _ _ put_0 (put _ _ _ _ _ _ _ _ put_2 (put _ _ _ _ _ _ _ _ put_4 (put _ _ _ _ _ _ _ _ put_6 (done _)))))
 
-    pub moves_hold : Moves b c u v w x y
+    pub put_with_move_holds : PutWithMove b c u v w x y
     unfolding pair_of old_digest rotated at_both relocated
-    moves_hold = (
+    put_with_move_holds = (
       b5 u v w x y,
       filled_b5,
       (omega arith, omega arith, λ d. (refl, refl)),

@@ -13,7 +13,7 @@ use Rattle.table.specs.Finding.{Asked, Finds, Looks, Misses, Payload}
 use Rattle.table.specs.declared.finding.Found.{Found}
 use Rattle.table.specs.declared.finding.Spot.{Spot}
 use Rattle.table.proofs.Answering.{live_right}
-use Rattle.worked.specs.Cases.{Reads}
+use Rattle.worked.specs.Cases.{BucketsRead}
 use Rattle.worked.proofs.Direct.{a5, filled_a5}
 use Rattle.worked.proofs.Outcomes.{one_outcome_holds}
 use Rattle.worked.proofs.Slots.{each, two_allowed}
@@ -69,8 +69,8 @@ module _ {V : Type 0} (b c : Bucket OldBlock V) (u v w x y : V) where
       let area : gs ≡ vacated old_line (a5 b c u v w x y) 256 1 0 = takes.held 1 0 (rw (live_right (a5 b c u v w x y) two_allowed) lies_256) in
       reads_one old_line (vacated old_line (a5 b c u v w x y) 256 1 0) 768 two_allowed q (rw area at finds) (λ e. absurd (cc))
 
-pub reads_hold : {V : Type 0} (b c : Bucket OldBlock V) (u v w x y : V) → Reads b c u v w x y
-reads_hold b c u v w x y rs es gs o f g h filled find_f find_g take find_h =
+pub buckets_read_holds : {V : Type 0} (b c : Bucket OldBlock V) (u v w x y : V) → BucketsRead b c u v w x y
+buckets_read_holds b c u v w x y rs es gs o f g h filled find_f find_g take find_h =
     let table = (one_outcome_holds _ _ _ _ _ _ filled (filled_a5 b c u v w x y)).1 in (
       read_two b c u v w x y f (rw table at find_f),
       read_one b c u v w x y g (rw table at find_g),

@@ -1,13 +1,13 @@
 -- Small examples of the rules for labels and their table, worked out by hand. All are of the old line's block numbers.
 --   old n                  the number n as a label
 --   Filled bs ps rs es     puts of the pairs ps into the table bs, one after the other, answer rs and leave es
---   Counted es m f         bucket 0 has the moved count m and the filter f
+--   CountAndFilter es m f  bucket 0 has the moved count m and the filter f
 --   OneOutcome             the rules give such puts one outcome
 --   empty                  two empty buckets
---   Spread                 digests, and what follows from them
---   Places, Moves, Denies, Reads   puts into two empty buckets, and what comes of them
+--   Digested               digests, and what follows from them
+--   PutAside, PutWithMove, PutDenied, BucketsRead   puts into two empty buckets, and what comes of them
 --   OneBucket              what fits into one bucket
---   Cases                  all of them
+--   WorkedCases            all of them
 -- Assumes nothing.
 use Rattle.std.specs.Prelude.{◌≡◌, ℕ, ◌+◌, ◌^◌, Bool, ◌⊎◌, List, [], ◌∷◌, Ok, Err, Option, Result}
 use Rattle.label.specs.declared.old_block.OldBlock.{OldBlock}
@@ -32,7 +32,7 @@ use Rattle.bucket_map.specs.Areas.{fresh}
 abbrev pub old : ℕ → OldBlock
 old n = record { 0 = n }
 
-pub record Spread : Type 0 where
+pub record Digested : Type 0 where
   pub of_256 : old_digest 256 ≡ 4294967552
   pub of_1 : old_digest 1 ≡ 2 ^ 56 + 1
   pub pair_of_1 : (first (old_digest 1) 2 ≡ 1) × (second (old_digest 1) 2 ≡ 0)
@@ -49,8 +49,8 @@ module _ {V : Type 0} where
     put : (bs cs es : List (Bucket OldBlock V)) (n : ℕ) (v : V) (r : Result (Stored V) Denied) (ps : List (ℕ × V)) (rs : Answers V)
         → Puts old_line bs (old n) v r cs → Filled cs ps rs es → Filled bs ((n, v) ∷ ps) (r ∷ rs) es
 
-  abbrev pub Counted : List (Bucket OldBlock V) → ℕ → ℕ → Type 0
-  Counted es moved filter = (peek (λ b. b.moved) 0 es 0 ≡ moved) × (peek (λ b. b.filter) 0 es 0 ≡ filter)
+  abbrev pub CountAndFilter : List (Bucket OldBlock V) → ℕ → ℕ → Type 0
+  CountAndFilter es moved filter = (peek (λ b. b.moved) 0 es 0 ≡ moved) × (peek (λ b. b.filter) 0 es 0 ≡ filter)
 
   -- two buckets, whatever they held before
   abbrev pub empty : Bucket OldBlock V → Bucket OldBlock V → List (Bucket OldBlock V)
@@ -65,27 +65,27 @@ module _ {V : Type 0} where
     evens_last = (256, u) ∷ ((0, v) ∷ ((2, w) ∷ ((4, x) ∷ ((6, y) ∷ []))))
 
     -- 256 finds bucket 0 full, and goes to bucket 1
-    abbrev pub Places : Type 0
-    Places = (es : List (Bucket OldBlock V))
+    abbrev pub PutAside : Type 0
+    PutAside = (es : List (Bucket OldBlock V))
         × Filled (empty b c) evens_first (Ok (Added 0) ∷ (Ok (Added 0) ∷ (Ok (Added 0) ∷ (Ok (Added 0) ∷ (Ok (Added 0) ∷ []))))) es
-        × Lies old_line es 256 1 0 × Counted es 1 1
+        × Lies old_line es 256 1 0 × CountAndFilter es 1 1
 
     -- 6 makes 256 move
-    abbrev pub Moves : Type 0
-    Moves = (es : List (Bucket OldBlock V))
+    abbrev pub PutWithMove : Type 0
+    PutWithMove = (es : List (Bucket OldBlock V))
         × Filled (empty b c) evens_last (Ok (Added 0) ∷ (Ok (Added 0) ∷ (Ok (Added 0) ∷ (Ok (Added 0) ∷ (Ok (Added 1) ∷ []))))) es
         × Lies old_line es 6 0 0 × Lies old_line es 0 0 1 × Lies old_line es 2 0 2 × Lies old_line es 4 0 3
         × Lies old_line es 256 1 0
 
     -- after either, 8 does not fit
-    abbrev pub Denies : Type 0
-    Denies = (rs : Answers V) (es gs : List (Bucket OldBlock V)) (z : V) (r : Result (Stored V) Denied)
+    abbrev pub PutDenied : Type 0
+    PutDenied = (rs : Answers V) (es gs : List (Bucket OldBlock V)) (z : V) (r : Result (Stored V) Denied)
         → Filled (empty b c) evens_first rs es ⊎ Filled (empty b c) evens_last rs es
         → Puts old_line es (old 8) z r gs → r ≡ Err Full
 
     -- with 256 in bucket 1, a find of 768 looks there too, and one of 131,328, whose mask is not in the filter, does not; once 256 is taken out the one of 768 does not either
-    abbrev pub Reads : Type 0
-    Reads = (rs : Answers V) (es gs : List (Bucket OldBlock V)) (o : Option V) (f g h : Found V)
+    abbrev pub BucketsRead : Type 0
+    BucketsRead = (rs : Answers V) (es gs : List (Bucket OldBlock V)) (o : Option V) (f g h : Found V)
         → Filled (empty b c) evens_first rs es
         → Finds old_line es 768 f → Finds old_line es 131328 g
         → Takes old_line es 256 o gs → Finds old_line gs 768 h
@@ -99,11 +99,11 @@ OneOutcome V =
 abbrev pub OneBucket : Type 0
 OneBucket = (s : ℕ → Bool) → (AtMost 4 s → Fits old_line 1 s) × (Fits old_line 1 s → AtMost 4 s)
 
-pub record Cases (V : Type 0) : Type 0 where
-  pub spread : Spread
+pub record WorkedCases (V : Type 0) : Type 0 where
+  pub spread : Digested
   pub one_outcome : OneOutcome V
-  pub places : (b c : Bucket OldBlock V) (u v w x y : V) → Places b c u v w x y
-  pub moves : (b c : Bucket OldBlock V) (u v w x y : V) → Moves b c u v w x y
-  pub denies : (b c : Bucket OldBlock V) (u v w x y : V) → Denies b c u v w x y
-  pub reads : (b c : Bucket OldBlock V) (u v w x y : V) → Reads b c u v w x y
+  pub places : (b c : Bucket OldBlock V) (u v w x y : V) → PutAside b c u v w x y
+  pub moves : (b c : Bucket OldBlock V) (u v w x y : V) → PutWithMove b c u v w x y
+  pub denies : (b c : Bucket OldBlock V) (u v w x y : V) → PutDenied b c u v w x y
+  pub reads : (b c : Bucket OldBlock V) (u v w x y : V) → BucketsRead b c u v w x y
   pub one_bucket : OneBucket

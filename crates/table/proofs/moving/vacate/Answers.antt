@@ -4,7 +4,7 @@ use Rattle.table.proofs.moving.vacate.Goals as goal
 
 pub returns-then-first-spot-clause-area : goal.returns-then-first-spot-clause-area
 returns-then-first-spot-clause-area g c =
-    vacated_two _ _ c.args.spot.slot g.L.Label _ _ _ c.digest.ensures c.pair-first.ensures.pair.0 _ _ c.free.ensures _ _ c.move_back.ensures c.if-first-spot.true
+    vacated_two _ _ c.args.spot.slot g.L.Label _ _ _ c.digest.ensures c.pair-first.ensures.pair.0 _ _ c.free.ensures _ _ c.count_back.ensures c.if-first-spot.true
 
 pub returns-else-first-spot-clause-area : goal.returns-else-first-spot-clause-area
 returns-else-first-spot-clause-area g c =
