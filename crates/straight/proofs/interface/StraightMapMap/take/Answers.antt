@@ -2,8 +2,8 @@
 use Rattle.straight.proofs.Fits.{take_fit, take_pairs}
 use Rattle.straight.proofs.interface.StraightMapMap.take.Goals as goal
 
-pub returns : goal.returns
-returns g c =
+pub returns-clause-map : goal.returns-clause-map
+returns-clause-map g c =
     let num = g.L.Label.number in
     let rows = c.args.self.now.rows.now in
     let after = c.take.new.self.rows.now in
