@@ -1,11 +1,11 @@
 // A table of 4,096 buckets, filled with new-line labels until one does not fit.
 use crate::blanks::blank;
-use crate::upkeep::{first, second, slots, well_kept};
-use bucket::Bucket;
+use crate::closed::{cannot_fit, reach};
+use crate::upkeep::well_kept;
 use bucket_map::BucketMap;
 use checks::{check, check_eq};
 use insertion::Stored;
-use label::{Label, NewBlock};
+use label::NewBlock;
 use map::Denied;
 use std::test::*;
 
@@ -97,70 +97,6 @@ fn what_is_taken_out_of_a_full_table_fits_again() -> Result<(), Fail> {
     check_eq(map.put(denied, 1), Err(Denied::Full))?;
     finds_all(&map, filled.count)?;
     well_kept(&area)
-}
-
-fn has(set: &[bool], i: u64) -> bool {
-    set.get(i as usize).is_some_and(|inside| *inside)
-}
-
-fn add(set: &mut [bool], i: u64) {
-    if let Some(inside) = set.get_mut(i as usize) {
-        *inside = true;
-    }
-}
-
-// Adds both buckets of a label.
-fn add_homes(set: &mut [bool], label: NewBlock) {
-    let size = set.len() as u64;
-    add(set, first(label.digest(), size));
-    add(set, second(label.digest(), size));
-}
-
-// Whether both buckets of a label are in a set.
-fn has_homes(set: &[bool], label: NewBlock) -> bool {
-    let size = set.len() as u64;
-    has(set, first(label.digest(), size)) && has(set, second(label.digest(), size))
-}
-
-fn count(set: &[bool]) -> usize {
-    set.iter().filter(|inside| **inside).count()
-}
-
-// Adds the buckets of all labels that lie in the set, and answers whether one is new there.
-fn grows(area: &[Bucket<NewBlock, u32>], set: &mut [bool]) -> bool {
-    let before = count(set);
-    for (i, bucket) in area.iter().enumerate() {
-        if has(set, i as u64) {
-            slots(bucket)
-                .iter()
-                .for_each(|slot| add_homes(set, slot.label));
-        }
-    }
-    count(set) > before
-}
-
-// Makes an empty set that of the buckets which moves for a label could lead to.
-fn reach(area: &[Bucket<NewBlock, u32>], label: NewBlock, set: &mut [bool]) {
-    add_homes(set, label);
-    for _ in 0..4096 {
-        if !grows(area, set) {
-            return;
-        }
-    }
-}
-
-// Both buckets of a label are in a set whose every slot is used by a label that can lie nowhere else: no arrangement has room for one more.
-fn cannot_fit(area: &[Bucket<NewBlock, u32>], label: NewBlock, set: &[bool]) -> Result<(), Fail> {
-    check(has_homes(set, label))?;
-    for (bucket, inside) in area.iter().zip(set) {
-        check(
-            !inside
-                || slots(bucket)
-                    .iter()
-                    .all(|slot| slot.used && has_homes(set, slot.label)),
-        )?;
-    }
-    Ok(())
 }
 
 #[test]

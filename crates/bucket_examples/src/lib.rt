@@ -8,12 +8,20 @@ mod blanks;
 #[cfg(test)]
 mod both_lines;
 #[cfg(test)]
+mod chains;
+#[cfg(test)]
+mod closed;
+#[cfg(test)]
 mod large;
+#[cfg(test)]
+mod mixed;
 #[cfg(test)]
 mod puts;
 #[cfg(test)]
 mod runs;
 #[cfg(test)]
 mod small_tables;
+#[cfg(test)]
+mod steps;
 #[cfg(test)]
 mod upkeep;

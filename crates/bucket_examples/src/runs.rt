@@ -1,4 +1,4 @@
-// Random-looking runs over eight buckets, beside a straight map and a test of placement that tries every set of buckets.
+// Random-looking runs over eight buckets, beside a straight map and a test of placement that tries every set of buckets, and so takes nothing from the table's search.
 use crate::blanks::{blank, blank_row};
 use crate::upkeep::well_kept;
 use bucket::Bucket;
@@ -39,7 +39,7 @@ fn confined(labels: &[Option<u32>], set: u32) -> usize {
         .count()
 }
 
-// Whether the labels can be placed: no set of buckets has more labels to itself than slots.
+// Whether the labels can be placed: no set of buckets has more labels to itself than slots. Where one has, some label of it is left over however they are placed; where none has, they can be placed, by Hall's theorem on matchings. All sets are tried.
 fn placeable(labels: &[Option<u32>]) -> bool {
     (0..256u32).all(|set| confined(labels, set) <= 4 * set.count_ones() as usize)
 }

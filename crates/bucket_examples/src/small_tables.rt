@@ -1,5 +1,5 @@
 // Old-line labels in tables of one and of two buckets, slot by slot.
-use crate::blanks::blank;
+use crate::blanks::{NO_MARK, blank};
 use crate::puts::adds;
 use crate::upkeep::slots;
 use bucket::{Bucket, Slot};
@@ -43,14 +43,28 @@ fn found(payload: Option<u32>, read: u8) -> Found<u32> {
     Found { payload, read }
 }
 
+// A bucket at rest: its slots, and how many labels that it is the first bucket of lie elsewhere, with their masks together.
+fn at_rest(s: [Slot<OldBlock, u32>; 4], moved: u16, filter: u64) -> Bucket<OldBlock, u32> {
+    let [s0, s1, s2, s3] = s;
+    Bucket {
+        filter,
+        moved,
+        mark: NO_MARK,
+        s0,
+        s1,
+        s2,
+        s3,
+    }
+}
+
 #[test]
 fn a_fifth_label_goes_to_its_second_bucket() -> Result<(), Fail> {
     let mut area = pair_of_blanks();
     let mut map = BucketMap::new(&mut area);
     adds(&mut map, [0, 2, 4, 6, 256].map(tenfold))?;
-    check_eq(area[1].s0, held(256, 0))?;
-    check_eq(area[0].moved, 1)?;
-    check_eq(area[0].filter, 1)
+    let first = [held(0, 0), held(2, 512), held(4, 1024), held(6, 1536)];
+    let second = [held(256, 0), left(0, 0), left(0, 0), left(0, 0)];
+    check_eq(area, [at_rest(first, 1, 1), at_rest(second, 0, 0)])
 }
 
 #[test]
@@ -59,11 +73,9 @@ fn a_label_moves_to_its_second_bucket_for_another() -> Result<(), Fail> {
     let mut map = BucketMap::new(&mut area);
     adds(&mut map, [256, 0, 2, 4].map(tenfold))?;
     check_eq(map.put(OldBlock(6), 60), Ok(Stored::Added(1)))?;
-    check_eq(
-        slots(&area[0]).map(|slot| *slot),
-        [held(6, 1536), held(0, 0), held(2, 512), held(4, 1024)],
-    )?;
-    check_eq(area[1].s0, held(256, 0))
+    let first = [held(6, 1536), held(0, 0), held(2, 512), held(4, 1024)];
+    let second = [held(256, 0), left(0, 0), left(0, 0), left(0, 0)];
+    check_eq(area, [at_rest(first, 1, 1), at_rest(second, 0, 0)])
 }
 
 // The area once the labels are put, and no more is asked.

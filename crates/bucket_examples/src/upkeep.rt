@@ -79,12 +79,43 @@ fn is_kept<L: Label>(bucket: &Bucket<L, u32>, away: Away) -> Result<(), Fail> {
     check_eq(bucket.mark, NO_MARK)
 }
 
-pub(crate) fn well_kept<L: Label>(area: &[Bucket<L, u32>]) -> Result<(), Fail> {
+// How many used slots of the bucket have the label.
+fn times_in<L: Label>(bucket: &Bucket<L, u32>, label: L) -> u32 {
+    let [a, b, c, d] = slots(bucket).map(|slot| u32::from(slot.used && slot.label.same(label)));
+    a + b + c + d
+}
+
+// How many used slots of the label's buckets have it.
+fn times<L: Label>(area: &[Bucket<L, u32>], label: L) -> u32 {
     let size = area.len() as u64;
+    let home = first(label.digest(), size);
+    let other = second(label.digest(), size);
+    let in_bucket = |i: u64| area
+        .get(i as usize)
+        .map_or(0, |bucket| times_in(bucket, label));
+    if home == other {
+        in_bucket(home)
+    } else {
+        in_bucket(home).wrapping_add(in_bucket(other))
+    }
+}
+
+// Each label of the bucket lies right, and in one slot only.
+fn all_lie_right<L: Label>(
+    area: &[Bucket<L, u32>],
+    bucket: &Bucket<L, u32>,
+    i: u64,
+) -> Result<(), Fail> {
+    for slot in slots(bucket) {
+        lies_right(slot, i, area.len() as u64)?;
+        check(!slot.used || times(area, slot.label) == 1)?;
+    }
+    Ok(())
+}
+
+pub(crate) fn well_kept<L: Label>(area: &[Bucket<L, u32>]) -> Result<(), Fail> {
     for (i, bucket) in area.iter().enumerate() {
-        for slot in slots(bucket) {
-            lies_right(slot, i as u64, size)?;
-        }
+        all_lie_right(area, bucket, i as u64)?;
         is_kept(bucket, away_from(area, i))?;
     }
     Ok(())
