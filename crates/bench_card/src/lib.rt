@@ -1,4 +1,4 @@
-// The card of the returns bench: eight blocks of the old line, every block number but the last, their entries in two buckets, four streams.
+// The card of the returns bench: eight blocks, every block number of the old line but the last, entries in two buckets, four streams.
 #![tactic(auto)]
 
 ghost use Rattle.std.specs.Prelude.{IfOk};

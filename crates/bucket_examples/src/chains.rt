@@ -1,4 +1,4 @@
-// The longest chains of moves: each bucket is full, and one label of it leads on to the next bucket, until the last.
+// The longest chains of moves: each bucket but the last is full, and one label of it leads on to the next.
 use crate::blanks::blank;
 use crate::upkeep::well_kept;
 use bucket::Bucket;
@@ -8,7 +8,7 @@ use insertion::Stored;
 use label::OldBlock;
 use std::test::*;
 
-// A label with these two buckets, of at most 256.
+// A label with these two buckets, in a table of at most 256; `more` tells apart those that share both.
 fn label(first: u32, second: u32, more: u32) -> OldBlock {
     OldBlock((first % 256) | (second % 256) << 8 | (more % 256) << 16)
 }

@@ -32,14 +32,19 @@ fn count(set: &[bool]) -> usize {
     set.iter().filter(|inside| **inside).count()
 }
 
+// Adds both buckets of each label that lies in a bucket.
+fn add_all<L: Label>(set: &mut [bool], bucket: &Bucket<L, u32>) {
+    for slot in slots(bucket) {
+        add_homes(set, slot.label);
+    }
+}
+
 // Adds the buckets of all labels that lie in the set, and answers whether one is new there.
 fn grows<L: Label>(area: &[Bucket<L, u32>], set: &mut [bool]) -> bool {
     let before = count(set);
     for (i, bucket) in area.iter().enumerate() {
         if has(set, i as u64) {
-            slots(bucket)
-                .iter()
-                .for_each(|slot| add_homes(set, slot.label));
+            add_all(set, bucket);
         }
     }
     count(set) > before

@@ -1,6 +1,7 @@
 // Random-looking runs over 4,096 buckets that stay as full as they get, beside a plain array: the payload that each label should have.
 use crate::blanks::blank;
 use crate::closed::{cannot_fit, reach};
+use crate::runs::step;
 use crate::upkeep::well_kept;
 use bucket::Bucket;
 use bucket_map::BucketMap;
@@ -10,16 +11,10 @@ use label::{BlockNumber, NewBlock, OldBlock};
 use map::Denied;
 use std::test::*;
 
-// Twice as many as fit.
+// Twice as many as there are slots.
 const LABELS: usize = 32768;
 
 const LAST: u32 = 32767;
-
-fn step(state: u64) -> u64 {
-    state
-        .wrapping_mul(6364136223846793005)
-        .wrapping_add(1442695040888963407)
-}
 
 // The label of a place of the array. No two are the same, since the factor is odd.
 fn label<L: BlockNumber>(i: u32) -> L {

@@ -11,7 +11,7 @@ use std::test::*;
 use straight::{Row, StraightMap};
 
 // The next of a row of random-looking numbers.
-fn step(state: u64) -> u64 {
+pub(crate) fn step(state: u64) -> u64 {
     state
         .wrapping_mul(6364136223846793005)
         .wrapping_add(1442695040888963407)
@@ -39,7 +39,7 @@ fn confined(labels: &[Option<u32>], set: u32) -> usize {
         .count()
 }
 
-// Whether the labels can be placed: no set of buckets has more labels to itself than slots. Where one has, some label of it is left over however they are placed; where none has, they can be placed, by Hall's theorem on matchings. All sets are tried.
+// Whether the labels can be placed: no set of buckets has more labels to itself than slots. Where one has, one of those labels is left over however they are placed; where none has, they can be placed, by Hall's theorem on matchings. All sets are tried.
 fn placeable(labels: &[Option<u32>]) -> bool {
     (0..256u32).all(|set| confined(labels, set) <= 4 * set.count_ones() as usize)
 }

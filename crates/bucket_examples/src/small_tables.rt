@@ -1,5 +1,5 @@
 // Old-line labels in tables of one and of two buckets, slot by slot.
-use crate::blanks::{NO_MARK, blank};
+use crate::blanks::blank;
 use crate::puts::adds;
 use crate::upkeep::slots;
 use bucket::{Bucket, Slot};
@@ -49,11 +49,11 @@ fn at_rest(s: [Slot<OldBlock, u32>; 4], moved: u16, filter: u64) -> Bucket<OldBl
     Bucket {
         filter,
         moved,
-        mark: NO_MARK,
         s0,
         s1,
         s2,
         s3,
+        ..blank(OldBlock(0), 0)
     }
 }
 

@@ -1,4 +1,4 @@
-// The steps that the calls of a map are made of, each by itself.
+// The steps that the calls of a map are made of; blanking is seen in what ask and put leave.
 ghost use Rattle.std.specs.Prelude.{◌≡◌};
 
 use crate::blanks::{NO_MARK, blank};
@@ -24,7 +24,7 @@ fn a_digest_leads_to_two_buckets() -> Result<(), Fail> {
 }
 
 #[test]
-fn slots_are_filled_and_freed() -> Result<(), Fail> {
+fn slots_are_filled_freed_and_cleared() -> Result<(), Fail> {
     let mut bucket = blank(OldBlock(0), 0);
     bucket.fill(2, Slot::holding(7, OldBlock(5), 50));
     check_eq(bucket.place(7, OldBlock(5)), Some(2))?;
@@ -42,8 +42,13 @@ fn slots_are_filled_and_freed() -> Result<(), Fail> {
             ..Slot::holding(7, OldBlock(5), 51)
         },
     )?;
+    bucket.fill(3, Slot::holding(8, OldBlock(6), 60));
+    bucket.count_out(5);
     bucket.clear();
-    check_eq(bucket.used_slots(), 0)
+    check_eq(
+        (bucket.used_slots(), bucket.moved, bucket.filter),
+        (0, 0, 0),
+    )
 }
 
 #[test]
@@ -52,7 +57,7 @@ fn a_filter_goes_with_the_last_label_elsewhere() -> Result<(), Fail> {
     bucket.count_out(5);
     bucket.count_out(9);
     check_eq((bucket.moved, bucket.filter), (2, 13))?;
-    check(bucket.filter_contains(12) && !bucket.filter_contains(18))?;
+    check(bucket.filter_contains(12) && !bucket.filter_contains(6))?;
     bucket.count_back();
     check_eq((bucket.moved, bucket.filter), (1, 13))?;
     bucket.count_back();
@@ -67,6 +72,7 @@ fn a_mark_keeps_a_place() -> Result<(), Fail> {
         parent: 1,
         slot: 2,
     });
+    check(!bucket.has_joined())?;
     bucket.set_joined(true);
     check(bucket.has_joined())?;
     check_eq(
@@ -125,6 +131,7 @@ fn payloads_change_and_labels_go() -> Result<(), Fail> {
     )
 }
 
+// Three of the four labels lead back to bucket 0, which does not join again.
 #[test]
 fn a_search_leaves_its_list_in_the_marks() -> Result<(), Fail> {
     let mut area = three();
@@ -150,7 +157,7 @@ fn a_search_leaves_its_list_in_the_marks() -> Result<(), Fail> {
 }
 
 #[test]
-fn a_bucket_joins_once() -> Result<(), Fail> {
+fn a_bucket_joins_at_a_place() -> Result<(), Fail> {
     let mut area = three();
     let place = Place {
         bucket: 1,

@@ -1,4 +1,4 @@
--- The kinds of labels as values: the ghost members that their types give to the trait.
+-- A kind of labels as a value: the ghost members that its type gives to the trait.
 --   old_line   the old line's block numbers: what each means, and how they are spread
 -- Assumes nothing.
 use Rattle.label.specs.declared.Label.{Ghosts}

@@ -97,7 +97,7 @@ fn a_number_without_room(rt: HostRuntime) -> Result<(), Fail> {
     )
 }
 
-// 256 is another number whose first bucket is 0. It makes room for 6 by a move to bucket 1, and is read there; 8 then has no room until one of the even numbers is trimmed.
+// 256 is another number whose first bucket is 0. It makes room for 6 by a move to bucket 1, and is read there; 8 then has no room until one of the four numbers in bucket 0 is trimmed.
 #[test]
 fn a_number_moves_for_another(rt: HostRuntime) -> Result<(), Fail> {
     lists(

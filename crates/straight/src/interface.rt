@@ -9,7 +9,7 @@ use crate::table::StraightMap;
 use label::Label;
 use map::{Denied, Map};
 
-// The map's own calls answer; they read the map by `&`. Each clause `map` is the trait's, and `area` says what every row then holds.
+// The map's own calls answer; of them find, ask and count read the map by `&`. Each clause `map` is the trait's, and `area` says what every row then holds.
 impl<'a, L: Label, V: Copy> Map<L, V> for StraightMap<'a, L, V> {
     ghost pairs = { λ m. look L.Label.number (live m.rows.now) };
 

@@ -12,7 +12,7 @@ use Rattle.insertion.specs.Chain.{start}
 use Rattle.insertion.specs.Putting.{Puts}
 use Rattle.insertion.specs.declared.storing.Stored.TheVariants.{Added}
 use Rattle.bucket_map.proofs.Fresh.{live_kept}
-use Rattle.worked.specs.Cases.{Filled, PutAside, done, empty, evens_first, old, put}
+use Rattle.worked.specs.Cases.{Filled, PutAside, done, empty, aside_last, old, put}
 use Rattle.worked.proofs.Outcomes.{at_once, by_list, past_first, places}
 use Rattle.worked.proofs.Slots.{below, each, two_allowed}
 
@@ -96,7 +96,7 @@ module _ {V : Type 0} (b c : Bucket OldBlock V) where
     pub kept_a5 : WellKept old_line (live (a5 u v w x y))
     kept_a5 = put_256.kept
 
-    pub filled_a5 : Filled (empty b c) (evens_first b c u v w x y) (Ok (Added 0) ∷ (Ok (Added 0) ∷ (Ok (Added 0) ∷ (Ok (Added 0) ∷ (Ok (Added 0) ∷ []))))) (a5 u v w x y)
+    pub filled_a5 : Filled (empty b c) (aside_last b c u v w x y) (Ok (Added 0) ∷ (Ok (Added 0) ∷ (Ok (Added 0) ∷ (Ok (Added 0) ∷ (Ok (Added 0) ∷ []))))) (a5 u v w x y)
     filled_a5 =
         put _ _ _ _ _ _ _ _ put_0 (put _ _ _ _ _ _ _ _ put_2 (put _ _ _ _ _ _ _ _ put_4 (put _ _ _ _ _ _ _ _ put_6 (put _ _ _ _ _ _ _ _ put_256 (done _)))))
 

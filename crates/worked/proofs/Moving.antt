@@ -12,7 +12,7 @@ use Rattle.insertion.specs.Chain.{move, start}
 use Rattle.insertion.specs.Putting.{Puts}
 use Rattle.insertion.specs.declared.storing.Stored.TheVariants.{Added}
 use Rattle.bucket_map.proofs.Fresh.{live_kept}
-use Rattle.worked.specs.Cases.{Filled, PutWithMove, done, empty, evens_last, old, put}
+use Rattle.worked.specs.Cases.{Filled, PutWithMove, done, empty, aside_first, old, put}
 use Rattle.worked.proofs.Outcomes.{at_once, by_list, past_first, places}
 use Rattle.worked.proofs.Slots.{below, each, two_allowed}
 
@@ -97,7 +97,7 @@ module _ {V : Type 0} (b c : Bucket OldBlock V) where
     pub kept_b5 : WellKept old_line (live (b5 u v w x y))
     kept_b5 = put_6.kept
 
-    pub filled_b5 : Filled (empty b c) (evens_last b c u v w x y) (Ok (Added 0) ∷ (Ok (Added 0) ∷ (Ok (Added 0) ∷ (Ok (Added 0) ∷ (Ok (Added 1) ∷ []))))) (b5 u v w x y)
+    pub filled_b5 : Filled (empty b c) (aside_first b c u v w x y) (Ok (Added 0) ∷ (Ok (Added 0) ∷ (Ok (Added 0) ∷ (Ok (Added 0) ∷ (Ok (Added 1) ∷ []))))) (b5 u v w x y)
     filled_b5 =
         put _ _ _ _ _ _ _ _ put_256 (put _ _ _ _ _ _ _ _ put_0 (put _ _ _ _ _ _ _ _ put_2 (put _ _ _ _ _ _ _ _ put_4 (put _ _ _ _ _ _ _ _ put_6 (done _)))))
 
@@ -111,4 +111,5 @@ module _ {V : Type 0} (b c : Bucket OldBlock V) where
       (omega arith, omega arith, λ d. (refl, refl)),
       (omega arith, omega arith, λ d. (refl, refl)),
       (omega arith, omega arith, λ d. (refl, refl)),
+      (refl, refl),
     )

@@ -96,8 +96,11 @@ module _ {L V : Type 0} (kind : Ghosts L) (bs : List (Bucket L V)) where
         let reached = homes_reached p s (first_below (kind.spread n) (length bs) some) (second_below (kind.spread n) (length bs) some) in
         by_list (homes p s) 0 k reached (grind (arith, nat_tests)) low 0 bs 0 k start reached.first.0
 
+    pub full : UsedUp kind bs n → Puts kind bs l v (Err Full) bs
+    full up = put_full kind bs l allowed kept (nowhere_of kind bs n none) v up
+
     pub denied : UsedUp kind bs n → (r : Result (Stored V) Denied) (es : List (Bucket L V)) → Puts kind bs l v r es → r ≡ Err Full
-    denied up r es puts = (one_put kind bs l v r (Err Full) es bs puts (put_full kind bs l allowed kept (nowhere_of kind bs n none) v up)).0
+    denied up r es puts = (one_put kind bs l v r (Err Full) es bs puts (full up)).0
 
 pub one_outcome_holds : {V : Type 0} → OneOutcome V
 one_outcome_holds bs es ds ps rs qs (done bs') (done bs'') = (refl, refl)

@@ -2,8 +2,10 @@
 --   old n                  the number n as a label
 --   Filled bs ps rs es     puts of the pairs ps into the table bs, one after the other, answer rs and leave es
 --   CountAndFilter es m f  bucket 0 has the moved count m and the filter f
+--   Answers V              what the puts of a list answered
 --   OneOutcome             the rules give such puts one outcome
 --   empty                  two empty buckets
+--   aside_last, aside_first   0, 2, 4 and 6, which have bucket 0 alone, with 256, which has bucket 1 too, put last or first
 --   Digested               digests, and what follows from them
 --   PutAside, PutWithMove, PutDenied, BucketsRead   puts into two empty buckets, and what comes of them
 --   OneBucket              what fits into one bucket
@@ -58,35 +60,36 @@ module _ {V : Type 0} where
 
   -- with the payloads of five puts
   module _ (b c : Bucket OldBlock V) (u v w x y : V) where
-    abbrev pub evens_first : List (ℕ × V)
-    evens_first = (0, u) ∷ ((2, v) ∷ ((4, w) ∷ ((6, x) ∷ ((256, y) ∷ []))))
+    abbrev pub aside_last : List (ℕ × V)
+    aside_last = (0, u) ∷ ((2, v) ∷ ((4, w) ∷ ((6, x) ∷ ((256, y) ∷ []))))
 
-    abbrev pub evens_last : List (ℕ × V)
-    evens_last = (256, u) ∷ ((0, v) ∷ ((2, w) ∷ ((4, x) ∷ ((6, y) ∷ []))))
+    abbrev pub aside_first : List (ℕ × V)
+    aside_first = (256, u) ∷ ((0, v) ∷ ((2, w) ∷ ((4, x) ∷ ((6, y) ∷ []))))
 
     -- 256 finds bucket 0 full, and goes to bucket 1
     abbrev pub PutAside : Type 0
     PutAside = (es : List (Bucket OldBlock V))
-        × Filled (empty b c) evens_first (Ok (Added 0) ∷ (Ok (Added 0) ∷ (Ok (Added 0) ∷ (Ok (Added 0) ∷ (Ok (Added 0) ∷ []))))) es
+        × Filled (empty b c) aside_last (Ok (Added 0) ∷ (Ok (Added 0) ∷ (Ok (Added 0) ∷ (Ok (Added 0) ∷ (Ok (Added 0) ∷ []))))) es
         × Lies old_line es 256 1 0 × CountAndFilter es 1 1
 
     -- 6 makes 256 move
     abbrev pub PutWithMove : Type 0
     PutWithMove = (es : List (Bucket OldBlock V))
-        × Filled (empty b c) evens_last (Ok (Added 0) ∷ (Ok (Added 0) ∷ (Ok (Added 0) ∷ (Ok (Added 0) ∷ (Ok (Added 1) ∷ []))))) es
+        × Filled (empty b c) aside_first (Ok (Added 0) ∷ (Ok (Added 0) ∷ (Ok (Added 0) ∷ (Ok (Added 0) ∷ (Ok (Added 1) ∷ []))))) es
         × Lies old_line es 6 0 0 × Lies old_line es 0 0 1 × Lies old_line es 2 0 2 × Lies old_line es 4 0 3
-        × Lies old_line es 256 1 0
+        × Lies old_line es 256 1 0 × CountAndFilter es 1 1
 
-    -- after either, 8 does not fit
+    -- after either, 8 does not fit: full is an answer, and there is no other
     abbrev pub PutDenied : Type 0
-    PutDenied = (rs : Answers V) (es gs : List (Bucket OldBlock V)) (z : V) (r : Result (Stored V) Denied)
-        → Filled (empty b c) evens_first rs es ⊎ Filled (empty b c) evens_last rs es
-        → Puts old_line es (old 8) z r gs → r ≡ Err Full
+    PutDenied = (rs : Answers V) (es : List (Bucket OldBlock V)) (z : V)
+        → Filled (empty b c) aside_last rs es ⊎ Filled (empty b c) aside_first rs es
+        → Puts old_line es (old 8) z (Err Full) es
+        × ((gs : List (Bucket OldBlock V)) (r : Result (Stored V) Denied) → Puts old_line es (old 8) z r gs → r ≡ Err Full)
 
     -- with 256 in bucket 1, a find of 768 looks there too, and one of 131,328, whose mask is not in the filter, does not; once 256 is taken out the one of 768 does not either
     abbrev pub BucketsRead : Type 0
     BucketsRead = (rs : Answers V) (es gs : List (Bucket OldBlock V)) (o : Option V) (f g h : Found V)
-        → Filled (empty b c) evens_first rs es
+        → Filled (empty b c) aside_last rs es
         → Finds old_line es 768 f → Finds old_line es 131328 g
         → Takes old_line es 256 o gs → Finds old_line gs 768 h
         → (f.read ≡ 2) × (g.read ≡ 1) × (h.read ≡ 1)
