@@ -1,0 +1,3 @@
+-- What the contracts of the vectors cite.
+pub mod Agreement
+pub mod Reading
