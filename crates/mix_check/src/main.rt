@@ -4,7 +4,7 @@
 use anyhow::anyhow;
 use std::env;
 use std::io::Read;
-use vectors::{Score, differences, text_of, vectors_of};
+use vectors::{Score, differences, text_in, vectors_of};
 
 fn main(rt: HostRuntime) -> anyhow::Result<()> {
     if env::args(&rt)?.count() > 1 {
@@ -14,7 +14,7 @@ fn main(rt: HostRuntime) -> anyhow::Result<()> {
     }
     let mut input = Vec::new(rt.alloc());
     rt.stdin().read_to_end(&mut input)?;
-    let vectors = vectors_of(text_of(input.as_slice())?, rt.alloc())?;
+    let vectors = vectors_of(text_in(input.as_slice())?, rt.alloc())?;
     for difference in &differences(vectors.as_slice(), rt.alloc())? {
         println!(&rt; "{difference}")?;
     }

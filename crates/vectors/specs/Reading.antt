@@ -4,15 +4,13 @@
 --   SaysNothing l       the line l says none
 --   FailsAt ls n        of the lines ls, the one numbered n is the first that says no vector
 --   ReadsVectors t r    what r is, where the vectors of the text t are asked for
---   line_of_fault bs    the number of the line where the bytes bs stop being text
 --   error_text e        an error as text
 -- Assumes nothing.
-use Rattle.std.specs.Prelude.{◌≡◌, ℕ, ◌+◌, ◌^◌, ◌<◌, ◌==◌, List, [], ◌∷◌, ◌++◌, take, length, Vec, Result, Ok, Err, codes, decimal}
+use Rattle.std.specs.Prelude.{◌≡◌, ℕ, ◌+◌, ◌^◌, ◌<◌, List, [], ◌∷◌, ◌++◌, length, Vec, Result, Ok, Err, codes, decimal}
 use Rattle.std.specs.Bool.{⊤}
-use Rattle.std.specs.List.{AllZip, count_by}
+use Rattle.std.specs.List.{AllZip}
 use Rattle.std.specs.Str.Lines.{lines}
 use Rattle.std.specs.Str.Parse.{IsNumeral, digits_value}
-use Rattle.std.specs.Str.Lossy.{utf8_valid_len}
 use Rattle.std.specs.declared.alloc.Global.{Global}
 use Rattle.vectors.specs.declared.agreement.Vector.{Vector}
 use Rattle.vectors.specs.declared.reading.ReadError.{ReadError}
@@ -52,10 +50,6 @@ ReadsVectors text (Err (NoVector n)) = FailsAt (lines text) n
 ReadsVectors text (Err NoLines) = lines text ≡ []
 ReadsVectors text (Err (NoText n)) = ⊥
 ReadsVectors text (Err OutOfMemory) = ⊤
-
--- the bytes before the fault are text, and the newlines among them end the lines before it
-abbrev pub line_of_fault : List ℕ → ℕ
-line_of_fault bytes = count_by (λ b. b == 10) (take (utf8_valid_len bytes) bytes) + 1
 
 abbrev pub error_text : ReadError → List ℕ
 error_text (NoText n) = codes "line " ++ (decimal n ++ codes ": the bytes are not text in UTF-8")

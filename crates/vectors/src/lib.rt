@@ -5,4 +5,4 @@ mod agreement;
 mod reading;
 
 pub use agreement::{Difference, Score, Vector, differences};
-pub use reading::{NoVector, ReadError, text_of, vectors_of};
+pub use reading::{NoVector, ReadError, text_in, vectors_of};

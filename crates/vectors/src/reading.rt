@@ -1,16 +1,16 @@
 // Vectors read from a text, a line for each: two decimal numbers with a blank between them.
-ghost use Rattle.std.specs.Prelude.{◌≡◌, ◌==◌, ℕ, MatchResult, Some};
-ghost use Rattle.std.specs.List.{count_by};
+ghost use Rattle.std.specs.Prelude.{◌≡◌, ℕ, MatchResult, Some};
 ghost use Rattle.std.specs.Str.{IsUtf8};
-ghost use Rattle.vectors.specs.Reading.{ReadsVectors, Says, SaysNothing, Writes, error_text, line_of_fault};
+ghost use Rattle.vectors.specs.Reading.{ReadsVectors, Says, SaysNothing, Writes, error_text};
+ghost use Rattle.utf8.specs.Lines.{line_of_fault};
 ghost use Rattle.vectors.specs.declared.reading.ReadError.TheVariants.{OutOfMemory};
 
 use crate::agreement::Vector;
 use std::alloc::{AllocFailed, Global};
 use std::error::Error;
+use std::fmt;
 use std::fmt::{Display, Formatter};
 use std::str::FromStr;
-use std::{fmt, str};
 
 // The line is not two decimal numbers below 2^64 with a blank between them.
 #[derive(Clone, Copy, PartialEq, Eq, Debug)]
@@ -75,20 +75,12 @@ impl<T: Drop> From<AllocFailed<T>> for ReadError {
     }
 }
 
-// The line of a fault is the one where the bytes stop being text.
-pub fn text_of(bytes: &[u8]) -> Result<&str, ReadError>
-    ensures { MatchResult result (λ text. text.now ≡ bytes.now)
+// The bytes as text, or the line on which they stop being text.
+pub fn text_in(bytes: &[u8]) -> Result<&str, ReadError>
+    ensures { MatchResult result (λ text. (text.now ≡ bytes.now) × IsUtf8 bytes.now)
         (λ e. ¬ IsUtf8 bytes.now × (e ≡ ReadError.NoText (line_of_fault bytes.now))) }
 {
-    str::from_utf8(bytes).map_err(|error| ReadError::NoText {
-        line: 1 + newlines(&bytes[..error.valid_up_to()]),
-    })
-}
-
-fn newlines(bytes: &[u8]) -> usize
-    ensures { result ≡ count_by (λ b. b == 10) bytes.now }
-{
-    bytes.iter().filter(|byte| **byte == b'\n').count()
+    utf8::text_in(bytes).map_err(|line| ReadError::NoText { line })
 }
 
 // Stops at the first line that says no vector. Each line before it gave one, so their number tells its own.

@@ -1,7 +1,7 @@
 // Texts of good lines, and each kind of line that says no vector.
 use checks::{check_eq, check_row};
 use std::test::*;
-use vectors::{NoVector, ReadError, Vector, text_of, vectors_of};
+use vectors::{NoVector, ReadError, Vector, text_in, vectors_of};
 
 const LARGEST: Vector = Vector {
     input: u64::MAX,
@@ -81,10 +81,10 @@ fn no_lines(rt: HostRuntime) -> Result<(), Fail> {
 
 #[test]
 fn bytes_that_are_no_text() -> Result<(), Fail> {
-    check_eq(text_of(b"1 2\n"), Ok("1 2\n"))?;
-    check_eq(text_of(b"\xff 2\n"), Err(ReadError::NoText { line: 1 }))?;
+    check_eq(text_in(b"1 2\n"), Ok("1 2\n"))?;
+    check_eq(text_in(b"\xff 2\n"), Err(ReadError::NoText { line: 1 }))?;
     check_eq(
-        text_of(b"1 2\n\n3 \xc3"),
+        text_in(b"1 2\n\n3 \xc3"),
         Err(ReadError::NoText { line: 3 }),
     )
 }

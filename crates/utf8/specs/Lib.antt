@@ -1,0 +1,2 @@
+-- What the contract of text cites.
+pub mod Lines
