@@ -15,18 +15,18 @@ use Rattle.entry.specs.declared.Ending.TheVariants.{Commit, Abandon, Condemn}
 use Rattle.blocks.specs.declared.state.Blocks.{Blocks}
 use Rattle.blocks.proofs.Fixed.{fixed_none, fixed_more, reads_fixed, trims_fixed, passes_fixed}
 use Rattle.blocks.specs.Service.{Lived, Fixed, Through, Passed, Passes, finished}
-use Rattle.tape.specs.declared.calls.Call.{Call}
-use Rattle.tape.specs.declared.calls.Call.TheVariants.{Write, Drop, Spoil, Read, Trim, Tally as CallTally}
-use Rattle.tape.specs.declared.faults.Fault.{Fault}
-use Rattle.tape.specs.declared.fields.Reader.{Reader}
-use Rattle.tape.specs.declared.fields.Reading.{Reading}
-use Rattle.tape.specs.Fields.{Opened, Gives}
-use Rattle.tape.proofs.Runs.{opened_reads, unopened_reads}
+use Rattle.call_tape.specs.declared.calls.Call.{Call}
+use Rattle.call_tape.specs.declared.calls.Call.TheVariants.{Write, Drop, Spoil, Read, Trim, Open, Append, Close, Tally as CallTally}
+use Rattle.call_tape.specs.declared.faults.Fault.{Fault}
+use Rattle.call_tape.specs.declared.fields.Reader.{Reader}
+use Rattle.call_tape.specs.declared.fields.Reading.{Reading}
+use Rattle.call_tape.specs.Fields.{Opened, Gives}
+use Rattle.call_tape.proofs.Runs.{opened_reads, unopened_reads}
 use Rattle.listing.specs.declared.lines.Line.{Line}
 use Rattle.listing.specs.declared.lines.Reply.{Reply}
 use Rattle.listing.specs.declared.lines.Reply.TheVariants.{Block}
-use Rattle.listing.specs.Lines.{replied, Obeys, Answered}
-use Rattle.listing.specs.Plays.{events_of, Stands, Tells, Plays, nothing, call, fault, fault_of, faulted, Came, Adds, PlaysOn, Played}
+use Rattle.listing.specs.Lines.{replied, Untold, Obeys, Answered}
+use Rattle.listing.specs.Plays.{events_of, Stands, Apart, Tells, Plays, nothing, call, fault, refused_with, fault_of, faulted, Came, Adds, PlaysOn, Played}
 
 -- ---- one call
 
@@ -39,12 +39,18 @@ module _ {L B S : Type 0} (bm : Ghosts B L Entry) (sm : Ghosts S StreamLabel Pos
       after (Ok b) on = on
       after (Err e) on = on
 
+  apart : (h : History) (o : Result Reply Refusal) → Untold bm sm s o t → Lived bm sm h s → (new : History) × Apart o new × Lived bm sm (new ++ h) t × Fixed bm sm s t
+  apart h o (is, same) lived = ([], (is, refl), rw same lived, subst (Fixed bm sm s) (sym same) (fixed_none bm sm s))
+
   tells : (h : History) (c : Call) (o : Result Reply Refusal) → Obeys bm sm s c o t → Lived bm sm h s → (new : History) × Tells c o new × Lived bm sm (new ++ h) t × Fixed bm sm s t
   tells h (Write n) o p lived = passing h Commit n o p lived
   tells h (Drop n) o p lived = passing h Abandon n o p lived
   tells h (Spoil n) o p lived = passing h Condemn n o p lived
   tells h (Read n) o p lived = (_, (p.answer, p.outcome, refl), p.step h lived, reads_fixed bm sm s t n p.answer p.leaves)
   tells h (Trim n) o p lived = (_, (p.answer, p.outcome, refl), p.step h lived, trims_fixed bm sm s t n p.answer p.leaves)
+  tells h (Open x) o p lived = apart h o p lived
+  tells h (Append l) o p lived = apart h o p lived
+  tells h (Close l) o p lived = apart h o p lived
   tells h CallTally o p lived = (_, (p.answer, p.outcome, refl), p.step h lived, subst (Fixed bm sm s) (sym p.leaves) (fixed_none bm sm s))
 
   -- a service whose check failed
@@ -56,12 +62,15 @@ module _ {L B S : Type 0} (bm : Ghosts B L Entry) (sm : Ghosts S StreamLabel Pos
       go (Ok a) q (is, same) = absurd (true≢false (sym (yes' a) ∙ ap accepted is))
       go (Err d) q (is, same) = let n = no' d in let d_is : d ≡ e = cc in (q ∙ ap (λ x. Err x) d_is, same)
 
-  refuses_all : (e : Refusal) (c : Call) (o : Result Reply Refusal) → s.fault ≡ Some e → Obeys bm sm s c o t → (o ≡ Err e) × (t ≡ s)
+  refuses_all : (e : Refusal) (c : Call) (o : Result Reply Refusal) → s.fault ≡ Some e → Obeys bm sm s c o t → (o ≡ Err (refused_with e c)) × (t ≡ s)
   refuses_all e (Write n) o f p = refuses e o (λ _. refl) (λ _. refl) f p
   refuses_all e (Drop n) o f p = refuses e o (λ _. refl) (λ _. refl) f p
   refuses_all e (Spoil n) o f p = refuses e o (λ _. refl) (λ _. refl) f p
   refuses_all e (Read n) o f p = refuses e o (λ _. refl) (λ _. refl) f p
   refuses_all e (Trim n) o f p = refuses e o (λ _. refl) (λ _. refl) f p
+  refuses_all e (Open x) o f p = p
+  refuses_all e (Append l) o f p = p
+  refuses_all e (Close l) o f p = p
   refuses_all e CallTally o f p = refuses e o (λ _. refl) (λ _. refl) f p
 
 -- ---- reading after reading

@@ -2,10 +2,12 @@
 --   reply_of o          the reply to a read or a trim that answered o
 --   replied f r         the outcome where the service answered r, and f is its reply
 --   Answered s ..       an answer of the service s, with its outcome and what it then is
+--   Untold s o t        the service s is not told of a stream's call
 --   Obeys s c o t       the service s obeys the call c of a tape: the outcome is o, and it is then t
 -- Assumes nothing.
 use Rattle.std.specs.Prelude.{◌≡◌, ℕ, Some, None, Ok, Err, Option, Result}
 use Rattle.refusal.specs.declared.Refusal.{Refusal}
+use Rattle.refusal.specs.declared.Refusal.TheVariants.{UnknownTag}
 use Rattle.label.specs.declared.stream.StreamLabel.{StreamLabel}
 use Rattle.map.specs.declared.Map.{Ghosts}
 use Rattle.rules.specs.declared.Entry.{Entry}
@@ -15,8 +17,8 @@ use Rattle.rules.specs.Calls.Call.{read, trim, tally}
 use Rattle.entry.specs.declared.Ending.TheVariants.{Commit, Abandon, Condemn}
 use Rattle.blocks.specs.declared.state.Blocks.{Blocks}
 use Rattle.blocks.specs.Service.{Goes, Through, Faulty, Passes, Reads, Trims, finished, found, tallied}
-use Rattle.tape.specs.declared.calls.Call.{Call}
-use Rattle.tape.specs.declared.calls.Call.TheVariants.{Write, Drop, Spoil, Read, Trim, Tally as CallTally}
+use Rattle.call_tape.specs.declared.calls.Call.{Call}
+use Rattle.call_tape.specs.declared.calls.Call.TheVariants.{Write, Drop, Spoil, Read, Trim, Open, Append, Close, Tally as CallTally}
 use Rattle.listing.specs.declared.lines.Reply.{Reply}
 use Rattle.listing.specs.declared.lines.Reply.TheVariants.{Block, Nothing, Counts}
 
@@ -38,6 +40,10 @@ module _ {L B S : Type 0} (bm : Ghosts B L Entry) (sm : Ghosts S StreamLabel Pos
     pub leaves : Left answer t
     pub faulty : Faulty bm sm s (said answer) t
 
+  -- the call of a stream: no service obeys one yet, so its tag counts as unknown
+  abbrev pub Untold : Result Reply Refusal → Blocks L B S → Type 0
+  Untold o t = (o ≡ Err UnknownTag) × (t ≡ s)
+
   -- a write, a drop and a spoil are a begin and its ending, and a tally leaves the service as it is
   abbrev pub Obeys : Call → Result Reply Refusal → Blocks L B S → Type 0
   Obeys (Write n) o t = Answered Block finished (Through bm sm s Commit n) (Passes bm sm s Commit n) o t
@@ -45,4 +51,7 @@ module _ {L B S : Type 0} (bm : Ghosts B L Entry) (sm : Ghosts S StreamLabel Pos
   Obeys (Spoil n) o t = Answered Block finished (Through bm sm s Condemn n) (Passes bm sm s Condemn n) o t
   Obeys (Read n) o t = Answered reply_of found (λ r. Goes bm sm s (read n) (found r)) (Reads bm sm s n) o t
   Obeys (Trim n) o t = Answered reply_of found (λ r. Goes bm sm s (trim n) (found r)) (Trims bm sm s n) o t
+  Obeys (Open x) o t = Untold o t
+  Obeys (Append l) o t = Untold o t
+  Obeys (Close l) o t = Untold o t
   Obeys CallTally o t = Answered Counts tallied (λ r. Goes bm sm s tally (tallied r)) (λ _ u. u ≡ s) o t

@@ -5,14 +5,14 @@ ghost use Rattle.listing.specs.Plays.{Adds, Played};
 
 use crate::lines::{Line, Reply};
 use blocks::Blocks;
+use call_tape::{Call, Reader, Reading};
 use label::{BlockNumber, StreamLabel};
 use map::Map;
 use refusal::Refusal;
 use rules::{Entry, Position};
 use std::alloc::{AllocError, Global};
-use tape::{Call, Reader, Reading};
 
-// Carries out one call of a tape.
+// Carries out one call of a tape. No service knows the calls of a stream yet: to it their tags are unknown.
 pub fn obey<'a, L: BlockNumber, B: Map<L, Entry>, S: Map<StreamLabel, Position>>(
     service: &mut Blocks<'a, L, B, S>,
     call: Call,
@@ -25,6 +25,7 @@ pub fn obey<'a, L: BlockNumber, B: Map<L, Entry>, S: Map<StreamLabel, Position>>
         Call::Spoil(n) => Reply::Block(service.spoil(n)?),
         Call::Read(n) => service.read(n)?.into(),
         Call::Trim(n) => service.trim(n)?.into(),
+        Call::Open(_) | Call::Append(_) | Call::Close(_) => return Err(Refusal::UnknownTag),
         Call::Tally => Reply::Counts(service.tally()?),
     })
 }

@@ -4,6 +4,7 @@ ghost use Rattle.blocks.specs.Service.{Goes, Faulty, Finishes, Back, end_call, e
 ghost use Rattle.service_examples.specs.Holding.{Ready, Keeps};
 
 use blocks::{Blocks, Grant, Mark, check as check_sizes};
+use call_tape::Call;
 use checks::{check_eq, check_row};
 use entry::Ending;
 use label::{BlockNumber, OldBlock, StreamLabel};
@@ -13,7 +14,6 @@ use refusal::Refusal;
 use rules::{Entry, Position, Tally};
 use std::test::*;
 use straight::{Row, StraightMap};
-use tape::Call;
 
 // A call of a tape, or a begin and, where it is granted, at once its ending.
 #[derive(Clone, Copy, PartialEq, Eq, Debug)]

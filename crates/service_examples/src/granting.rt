@@ -1,10 +1,10 @@
 // Blocks that go out and come back.
 use crate::card::{Ask, BLANK, Change, counts, runs, runs_out};
 use blocks::Mark;
+use call_tape::Call;
 use entry::Ending;
 use listing::Reply;
 use std::test::*;
-use tape::Call;
 
 #[test]
 fn a_number_at_the_bound() -> Result<(), Fail> {

@@ -58,6 +58,25 @@ fn a_wrong_length_and_a_cut_field(rt: HostRuntime) -> Result<(), Fail> {
     )
 }
 
+// No service knows the calls of a stream yet: a well-formed one is listed as of an unknown tag.
+#[test]
+fn calls_of_a_stream(rt: HostRuntime) -> Result<(), Fail> {
+    lists(
+        &rt,
+        &[
+            6, 0, 12, 1, 0, 2, 3, 0, 0, 0, 0, 0, 0, 0, 8, 7, 0, 4, 1, 0, 2, 3, 8, 0, 4, 1, 0, 2, 3,
+            8, 0, 3, 1, 0, 2, 9, 0, 0,
+        ],
+        &[
+            "0 fault 2 14",
+            "15 fault 2 14",
+            "22 fault 2 14",
+            "29 fault 2 15",
+            "35 tally 8 0 0 0",
+        ],
+    )
+}
+
 #[test]
 fn a_tape_too_long(rt: HostRuntime) -> Result<(), Fail> {
     let tape = vec![in rt.alloc(); 0u8; 65_536]?;
@@ -130,7 +149,9 @@ fn a_refused_service(rt: HostRuntime) -> Result<(), Fail> {
     let entries = StraightMap::new(&mut entry_rows);
     let streams = StraightMap::new(&mut stream_rows);
     let mut service = Blocks::<OldBlock, _, _>::new(0, &mut cells, &mut marks, entries, streams);
-    let tape = [1, 0, 4, 0, 0, 0, 0, 4, 0, 4, 0, 0, 0, 0, 7, 0, 0, 9, 0, 0];
+    let tape = [
+        1, 0, 4, 0, 0, 0, 0, 4, 0, 4, 0, 0, 0, 0, 10, 0, 0, 7, 0, 4, 1, 0, 2, 3, 9, 0, 0,
+    ];
     let lines = play(&mut service, &tape, rt.alloc())?;
     read(
         &rt,
@@ -139,7 +160,8 @@ fn a_refused_service(rt: HostRuntime) -> Result<(), Fail> {
             "0 fault 3 1",
             "7 fault 3 1",
             "14 fault 2 14",
-            "17 fault 3 1",
+            "17 fault 2 14",
+            "24 fault 3 1",
         ],
     )
 }

@@ -1,9 +1,9 @@
 // Settled blocks, and the calls that need no grant.
 use crate::card::{Ask, BLANK, counts, runs};
 use blocks::Mark;
+use call_tape::Call;
 use listing::Reply;
 use std::test::*;
-use tape::Call;
 
 #[test]
 fn reads_and_trims() -> Result<(), Fail> {

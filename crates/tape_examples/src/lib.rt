@@ -5,3 +5,5 @@
 mod rings;
 #[cfg(test)]
 mod tapes;
+#[cfg(test)]
+mod writing;

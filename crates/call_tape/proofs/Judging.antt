@@ -1,0 +1,92 @@
+-- Every tape of bytes is sound or has a first fault, and not both.
+use Rattle.std.proofs.Common.{◌≡◌, ℕ, ◌+◌, ◌≤◌, ◌⊎◌, List, [], ◌∷◌, ◌++◌, length, get_or, take, drop, Result, sym, refl, ap, ◌∙◌, inl, inr, subst, arith, length-append, length-drop, append-nil, append_assoc, take-append-drop}
+use Rattle.std.proofs.lemmas.List.{length-take-le, take_all}
+use lib.Seq.{take-append_seam}
+use Rattle.refusal.specs.declared.Refusal.{Refusal}
+use Rattle.refusal.specs.declared.Refusal.TheVariants.{FieldCutShort, UnknownTag, WrongFieldLength, TapeTooLong}
+use Rattle.call_tape.specs.declared.calls.Call.{Call}
+use Rattle.call_tape.specs.declared.faults.Fault.{Fault}
+use Rattle.call_tape.specs.declared.fields.Reading.{Reading}
+use Rattle.call_tape.specs.Calls.{tag_of, contents_of, Small, Decodes, call, unknown, wrong}
+use Rattle.call_tape.specs.Fields.{tag_at, size_at, contents_at, behind, Whole}
+use Rattle.call_tape.specs.Soundness.{Sound, Faulty, cut, FirstFault, long, calls_in, faults_in, WrittenAgain, SoundFaultless}
+use Rattle.call_tape.specs.Soundness as sound
+use Rattle.call_tape.specs.Tapes.{Reads, end, short, field, Tape}
+use Rattle.call_tape.specs.Written.{encoded, written, AllSmall, placed}
+use Rattle.call_tape.proofs.Decoding.{decodes}
+use Rattle.call_tape.proofs.OnlyWritten.{Bytes, bytes_part, cut_up, digits}
+use Rattle.call_tape.proofs.Runs.{one_reading}
+use Rattle.call_tape.proofs.Written.{written_reads}
+use Rattle.call_tape.proofs.Writing.{written_more, small_more}
+
+-- behind the calls cs the tape says the readings rs: it is sound, or one of them is its first fault
+abbrev pub Verdict : List ℕ → List Call → List Reading → Type 0
+Verdict T cs rs =
+    ((faults_in rs ≡ []) × Sound T (cs ++ calls_in rs))
+    ⊎ ((f : Fault) × (fs : List Fault) × (faults_in rs ≡ f ∷ fs) × FirstFault T f)
+
+module _ (T : List ℕ) (bytes : Bytes T) (l : length T ≤ 65535) where
+  -- the tape up to the place behind a call's field
+  field_more : (p : ℕ) (cs : List Call) (c : Call) → p ≤ length T → take p T ≡ written cs → Whole T p → tag_at T p ≡ tag_of c → contents_at T p ≡ contents_of c → T ≡ written (cs ++ c ∷ []) ++ drop (behind T p) T
+  field_more p cs c h e w t xs =
+      let n : size_at T p ≡ length (contents_of c) = sym (length-take-le (size_at T p) (drop (p + 3) T) (rw length-drop (omega arith))) ∙ ap length xs in
+      let (a, b) = digits (get_or T (p + 1) 0) (get_or T (p + 2) 0) (length (contents_of c)) (bytes (p + 1)) (bytes (p + 2)) n in
+      let d : drop p T ≡ encoded c ++ drop (behind T p) T = let w' = cut_up T p w in cc in
+      sym (take-append-drop p T) ∙ (rw (e, d) (sym (append_assoc (written cs) (encoded c) (drop (behind T p) T))) ∙ ap (λ z. z ++ drop (behind T p) T) (sym (written_more cs c)))
+
+  next_place : (p : ℕ) (cs : List Call) (c : Call) → take p T ≡ written cs → Whole T p → tag_at T p ≡ tag_of c → contents_at T p ≡ contents_of c
+      → (behind T p ≡ length (written (cs ++ c ∷ []))) × (take (behind T p) T ≡ written (cs ++ c ∷ []))
+  next_place p cs c e w t xs =
+      let W = written (cs ++ c ∷ []) in
+      let f : T ≡ W ++ drop (behind T p) T = field_more p cs c (omega arith) e w t xs in
+      let n : behind T p ≡ length W = omega (arith, ap length f ∙ length-append W (drop (behind T p) T), length-drop (behind T p) T) in
+      (n, ap (take (behind T p)) f ∙ (ap (λ i. take i (W ++ drop (behind T p) T)) n ∙ take-append_seam W (drop (behind T p) T)))
+
+  one_field : (p : ℕ) (cs : List Call) (ss : List Reading) (o : Result Call Refusal) → AllSmall cs → p ≡ length (written cs) → take p T ≡ written cs → Whole T p
+      → Decodes (tag_at T p) (contents_at T p) o → ((c : Call) → Small c → tag_at T p ≡ tag_of c → contents_at T p ≡ contents_of c → Verdict T (cs ++ c ∷ []) ss)
+      → Verdict T cs (record { place = p; outcome = o } ∷ ss)
+  one_field p cs ss o small at e w (call c s t xs) on = elim (on c s t xs) [
+    | inl (none, is) ↦ inl (none, subst (Sound T) (append_assoc cs (c ∷ []) (calls_in ss)) is)
+    | inr (f, fs, is, first) ↦ inr (f, fs, is, first)
+  ]
+  one_field p cs ss o small at e w (unknown n) on = inr (record { place = p; refusal = UnknownTag }, faults_in ss, refl, rw at (sound.field cs UnknownTag l small (rw (← at) e) (rw (← at) (sound.unknown w n))))
+  one_field p cs ss o small at e w (wrong c t n) on =
+      let s : length (contents_at T p) ≡ size_at T p = length-take-le (size_at T p) (drop (p + 3) T) (rw length-drop (omega arith)) in
+      inr (record { place = p; refusal = WrongFieldLength }, faults_in ss, refl, rw at (sound.field cs WrongFieldLength l small (rw (← at) e) (rw (← at) (sound.wrong w c t (λ z. n (s ∙ z))))))
+
+  pub judged_on : (p : ℕ) (cs : List Call) (rs : List Reading) → Reads T p rs → AllSmall cs → p ≡ length (written cs) → take p T ≡ written cs → Verdict T cs rs
+  judged_on p cs rs (end _ h) small at e = inl (refl, (l, rw (append-nil cs) small, sym (take_all p T h) ∙ (e ∙ ap written (sym (append-nil cs)))))
+  judged_on p cs rs (short _ c) small at e = inr (record { place = p; refusal = FieldCutShort }, [], refl, rw at (sound.field cs FieldCutShort l small (rw (← at) e) (rw (← at) (cut c))))
+  judged_on p cs rs (field _ ss w k) small at e =
+      one_field p cs ss _ small at e w (decodes (contents_at T p) (bytes_part T (size_at T p) (p + 3) bytes) (tag_at T p))
+      (λ c s t xs. let (n, m) = next_place p cs c e w t xs in judged_on (behind T p) (cs ++ c ∷ []) ss k (small_more cs c small s) n m)
+
+-- the whole tape, by what it says
+pub judged : (T : List ℕ) (rs : List Reading) → Bytes T → Tape T rs → Verdict T [] rs
+judged T rs bytes (inl (l, e)) = rw e (inr (record { place = 0; refusal = TapeTooLong }, [], refl, long l))
+judged T rs bytes (inr (l, h)) = judged_on T bytes l 0 [] rs h tt refl refl
+
+module _ (T : List ℕ) (rs : List Reading) (bytes : Bytes T) (h : Tape T rs) (cs : List Call) (fs : List Fault) (calls : cs ≡ calls_in rs) (faults : fs ≡ faults_in rs) where
+  pub judged_sound : length fs ≡ 0 → Sound T cs
+  judged_sound n = elim (judged T rs bytes h) [
+    | inl (none, is) ↦ rw calls is
+    | inr (f, gs, is, first) ↦ absurd (omega (arith, n, ap length (faults ∙ is)))
+  ]
+
+  pub judged_faulty : (length fs ≡ 0 → ⊥) → (f : Fault) × (gs : List Fault) × (ss : List Reading) × (fs ≡ f ∷ gs) × FirstFault T f × Tape T ss × (fs ≡ faults_in ss)
+  judged_faulty n = elim (judged T rs bytes h) [
+    | inl (none, is) ↦ absurd (n (ap length (faults ∙ none)))
+    | inr (f, gs, is, first) ↦ (f, gs, rs, faults ∙ is, first, h, faults)
+  ]
+
+placed_faultless : (p : ℕ) (cs : List Call) → faults_in (placed p cs) ≡ []
+placed_faultless p [] = refl
+placed_faultless p (c ∷ cs) = placed_faultless (p + 3 + length (contents_of c)) cs
+
+pub sound_faultless : SoundFaultless
+sound_faultless T cs rs (l, small, is) h =
+    let w : Tape T (placed 0 cs) = rw is (written_reads cs small (rw (← is) l)) in
+    ap faults_in (one_reading T rs (placed 0 cs) h w) ∙ placed_faultless 0 cs
+
+pub written_again : WrittenAgain
+written_again T Z A u cs (l, small, is) (small', at, within, laid) = rw (laid, at) (take-append_seam (written cs) _ ∙ sym is)

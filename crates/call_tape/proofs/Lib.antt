@@ -1,0 +1,8 @@
+-- Lemmas on what a field means and what a tape says.
+pub mod Decoding
+pub mod Runs
+pub mod Written
+pub mod Writing
+pub mod Sorting
+pub mod Judging
+pub mod OnlyWritten

@@ -1,0 +1,16 @@
+// Call tapes: the fields of a byte string, the call or the fault of each, and calls written as such a string.
+#![tactic(auto)]
+
+mod calls;
+mod faults;
+mod fields;
+mod soundness;
+mod whole;
+mod writer;
+
+pub use calls::{Call, Opening, decode};
+pub use faults::Fault;
+pub use fields::{Field, Reader, Reading};
+pub use soundness::sound_calls;
+pub use whole::readings;
+pub use writer::Writer;

@@ -1,5 +1,0 @@
--- Lemmas on what a field means and what a tape says.
-pub mod Decoding
-pub mod Runs
-pub mod Written
-pub mod OnlyWritten
