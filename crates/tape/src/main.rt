@@ -1,0 +1,70 @@
+// Makes call tapes from text, and text from call tapes. Both go in on standard input, and come out on standard output.
+#![tactic(auto)]
+
+use anyhow::{anyhow, bail};
+use call_tape::sound_calls;
+use std::env;
+use std::io::{Read, Write};
+use tape_text::{tape_of, text_of};
+
+const USAGE: &str = "usage: tape encode < TEXT > TAPE, or tape decode < TAPE > TEXT";
+
+// The longest tape there is.
+const LONGEST: usize = 65_535;
+
+#[derive(Clone, Copy)]
+enum Direction {
+    Encode,
+    Decode,
+}
+
+// The direction that the arguments behind the program's name ask for.
+fn asked_direction(arguments: &[String]) -> Option<Direction> {
+    let [_, word] = arguments else {
+        return None;
+    };
+    match word.as_str() {
+        "encode" => Some(Direction::Encode),
+        "decode" => Some(Direction::Decode),
+        _ => None,
+    }
+}
+
+// Writes the tape of the text, or nothing where a line cannot be read.
+fn encode(rt: &HostRuntime, text: &[u8]) -> anyhow::Result<()> {
+    let mut area = vec![in rt.alloc(); 0u8; LONGEST]?;
+    let count = tape_of(text, area.as_mut_slice(), rt.alloc())?;
+    area.truncate(count);
+    rt.stdout().write_all(area.as_slice())?;
+    eprintln!(rt; "bytes of tape: {count}")?;
+    Ok(())
+}
+
+// Writes the text of a sound tape, or nothing but the faults of another.
+fn decode(rt: &HostRuntime, tape: &[u8]) -> anyhow::Result<()> {
+    match sound_calls(tape, rt.alloc())? {
+        Ok(calls) => {
+            let text = text_of(&calls, rt.alloc())?;
+            rt.stdout().write_all(text.as_bytes())?;
+            eprintln!(rt; "calls: {}", calls.len())?;
+            Ok(())
+        }
+        Err(faults) => {
+            for fault in &faults {
+                eprintln!(rt; "{fault}")?;
+            }
+            bail!("faults on the tape: {}; no text is written", faults.len())
+        }
+    }
+}
+
+fn main(rt: HostRuntime) -> anyhow::Result<()> {
+    let arguments: Vec<String> = env::args(&rt)?.collect(rt.alloc())?;
+    let direction = asked_direction(&arguments).ok_or(anyhow!("{USAGE}"))?;
+    let mut input = Vec::new(rt.alloc());
+    rt.stdin().read_to_end(&mut input)?;
+    match direction {
+        Direction::Encode => encode(&rt, input.as_slice()),
+        Direction::Decode => decode(&rt, input.as_slice()),
+    }
+}

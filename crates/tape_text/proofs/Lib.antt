@@ -1,0 +1,10 @@
+-- Lemmas on words, lines and texts.
+pub mod Reading
+pub mod Text
+pub mod Sayings
+pub mod Adding
+pub mod Taking
+pub mod Once
+pub mod Spelled
+pub mod Barring
+pub mod Laws

@@ -1,0 +1,139 @@
+// A line of the text, as the call that it says.
+ghost use Rattle.std.specs.Prelude.{[], ◌∷◌, Some, MatchResult};
+ghost use Rattle.tape_text.specs.Numbers.{texts, ReadsAll};
+ghost use Rattle.tape_text.specs.Calls.{number_tops, label_tops, opening_tops, label_values, opening_values, call_text, Says, Wrong, LineMeans, OneMeaning};
+ghost use Rattle.tape_text.specs.Lines.{words, LineRead};
+
+use crate::complaints::{Complaint, LineFault, Unread};
+use crate::numbers::{byte_in, half_in, whole_in};
+use call_tape::{Call, Opening};
+use label::StreamLabel;
+use std::alloc::Global;
+use std::fmt;
+use std::fmt::{Display, Formatter};
+
+// A call as the text of its line.
+#[derive(Clone, Copy, PartialEq, Eq, Debug)]
+pub struct CallText(pub Call);
+
+impl Display for CallText {
+    ghost output = { λ t. Some (call_text t.0) };
+
+    fn fmt<W: fmt::Write>(&self, f: &mut Formatter<W>) -> fmt::Result {
+        match self.0 {
+            Call::Write(n) => write!(f, "write {n}"),
+            Call::Drop(n) => write!(f, "drop {n}"),
+            Call::Spoil(n) => write!(f, "spoil {n}"),
+            Call::Read(n) => write!(f, "read {n}"),
+            Call::Trim(n) => write!(f, "trim {n}"),
+            Call::Open(
+                Opening {
+                    stream: s,
+                    first,
+                    length,
+                },
+            ) => write!(
+                f,
+                "open {} {} {} {first} {length}",
+                s.port, s.channel, s.session
+            ),
+            Call::Append(s) => write!(f, "append {} {} {}", s.port, s.channel, s.session),
+            Call::Close(s) => write!(f, "close {} {} {}", s.port, s.channel, s.session),
+            Call::Tally => write!(f, "tally"),
+        }
+    }
+}
+
+// The number of a call that takes one.
+#[tactic(auto, using(crate::proofs::Reading::miscounted))]
+fn number_in(words: &[&str]) -> Result<u32, Complaint>
+    ensures { ReadsAll number_tops (texts words.now) (λ n. n ∷ []) result }
+{
+    match *words {
+        [number] => whole_in(2, number),
+        _ => Err(Complaint::WrongCount(1)),
+    }
+}
+
+// The label of a call that takes just that.
+#[tactic(auto, using(crate::proofs::Reading::miscounted))]
+fn stream_in(words: &[&str]) -> Result<StreamLabel, Complaint>
+    ensures { ReadsAll label_tops (texts words.now) label_values result }
+{
+    match *words {
+        [port, channel, session] => Ok(StreamLabel {
+            port: byte_in(2, port)?,
+            channel: half_in(3, channel)?,
+            session: byte_in(4, session)?,
+        }),
+        _ => Err(Complaint::WrongCount(3)),
+    }
+}
+
+// The opening of the call that takes one.
+#[tactic(auto, using(crate::proofs::Reading::miscounted))]
+fn opening_in(words: &[&str]) -> Result<Opening, Complaint>
+    ensures { ReadsAll opening_tops (texts words.now) opening_values result }
+{
+    match *words {
+        [port, channel, session, first, length] => Ok(Opening {
+            stream: StreamLabel {
+                port: byte_in(2, port)?,
+                channel: half_in(3, channel)?,
+                session: byte_in(4, session)?,
+            },
+            first: whole_in(5, first)?,
+            length: whole_in(6, length)?,
+        }),
+        _ => Err(Complaint::WrongCount(5)),
+    }
+}
+
+// The call of this first word and these words behind it.
+fn said_by(word: &str, words: &[&str]) -> Result<Call, Complaint>
+    ensures { MatchResult result (Says (word.now ∷ texts words.now)) (Wrong (word.now ∷ texts words.now)) }
+{
+    match word {
+        "write" => Ok(Call::Write(number_in(words)?)),
+        "drop" => Ok(Call::Drop(number_in(words)?)),
+        "spoil" => Ok(Call::Spoil(number_in(words)?)),
+        "read" => Ok(Call::Read(number_in(words)?)),
+        "trim" => Ok(Call::Trim(number_in(words)?)),
+        "open" => Ok(Call::Open(opening_in(words)?)),
+        "append" => Ok(Call::Append(stream_in(words)?)),
+        "close" => Ok(Call::Close(stream_in(words)?)),
+        "tally" => match words {
+            [] => Ok(Call::Tally),
+            _ => Err(Complaint::WrongCount(0)),
+        },
+        _ => Err(Complaint::UnknownWord),
+    }
+}
+
+// The call that the words of a line say; a line without words says none.
+fn call_of(words: &[&str]) -> Result<Option<Call>, Complaint>
+    ensures { LineMeans (texts words.now) result }
+{
+    match words {
+        [] => Ok(None),
+        [word, numbers @ ..] => Ok(Some(said_by(word, numbers)?)),
+    }
+}
+
+// The call that the line of this number says; the words of a line are what stands between blanks.
+pub fn call_in(number: usize, line: &str, heap: Global) -> Result<Option<Call>, Unread>
+    ensures read { LineRead line.now number result }
+    ensures once { OneMeaning }
+{
+    let words: Vec<&str> = line
+        .split(' ')
+        .filter(|word| !word.is_empty())
+        .collect(heap)?;
+    match call_of(&words) {
+        Ok(call) => Ok(call),
+        Err(complaint) => Err(Unread::Line(LineFault {
+            line: number,
+            complaint,
+        })),
+    }
+}

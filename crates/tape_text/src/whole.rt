@@ -1,0 +1,64 @@
+// A whole text: the calls of its lines as a tape, and the text of calls.
+ghost use Rattle.std.specs.Prelude.{◌≡◌, ℕ, List, IfOk, MatchResult, string_bytes};
+ghost use Rattle.std.specs.Str.{IsUtf8};
+ghost use Rattle.call_tape.specs.Writing.{Holds};
+ghost use Rattle.call_tape.specs.declared.calls.Call.{Call as CallValue};
+ghost use Rattle.tape_text.specs.Lines.{said, SaidReads, OneSaying};
+ghost use Rattle.tape_text.specs.Taken.{NoText, LineAdded, Taped, OneTaping, GivesBack};
+
+use crate::complaints::{Complaint, LineFault, Unread};
+use crate::lines::{CallText, call_in};
+use call_tape::{Call, Writer};
+use std::alloc::{AllocError, Global};
+
+// The text of the calls, a line for each.
+pub fn text_of(calls: &[Call], heap: Global) -> Result<String, AllocError>
+    ensures text { IfOk result (λ text. string_bytes text ≡ said calls.now) }
+    ensures reads { SaidReads }
+    ensures once { OneSaying }
+{
+    let mut text = String::new(heap);
+    for call in calls {
+        let call = CallText(*call);
+        writeln!(text, "{call}")?;
+    }
+    Ok(text)
+}
+
+// The bytes as text.
+fn text_in(bytes: &[u8]) -> Result<&str, LineFault>
+    ensures { MatchResult result (λ text. (text.now ≡ bytes.now) × IsUtf8 bytes.now) (NoText bytes.now) }
+{
+    utf8::text_in(bytes).map_err(|line| LineFault {
+        line,
+        complaint: Complaint::NotText,
+    })
+}
+
+// Adds the call of a line, if it says one.
+fn add_line(writer: &mut Writer, number: usize, line: &str, heap: Global) -> Result<(), Unread>
+    ensures lender { writer.new.area.ghost_name ≡ writer.old.area.ghost_name }
+    ensures added { (area : List ℕ) (cs : List CallValue) → Holds area writer.old.area.now writer.old.used cs → LineAdded line.now number area cs result writer.new.area.now writer.new.used }
+{
+    if let Some(call) = call_in(number, line, heap)? {
+        writer.add(call).map_err(|_| LineFault {
+            line: number,
+            complaint: Complaint::NoRoom,
+        })?;
+    }
+    Ok(())
+}
+
+// Puts the tape of the calls that the lines of a text say, in order, at the start of the area, and answers its length. Where a line is refused, the calls of the lines before it stand there.
+pub fn tape_of(bytes: &[u8], area: &mut [u8], heap: Global) -> Result<usize, Unread>
+    ensures taped { Taped bytes.now area.old result area.new }
+    ensures once { OneTaping }
+    ensures back { GivesBack }
+{
+    let text = text_in(bytes)?;
+    let mut writer = Writer::new(area);
+    for (above, line) in text.lines().enumerate() {
+        add_line(&mut writer, above + 1, line, heap)?;
+    }
+    Ok(writer.tape().len())
+}

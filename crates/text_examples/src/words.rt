@@ -1,0 +1,52 @@
+// The complaints, in words.
+use checks::check_eq;
+use std::test::*;
+use tape_text::{Complaint, LineFault, Unread};
+
+fn told(rt: &HostRuntime, line: usize, complaint: Complaint, words: &str) -> Result<(), Fail> {
+    let unread = Unread::Line(LineFault { line, complaint });
+    check_eq(format!(in rt.alloc(); "{unread}")?.as_str(), words)
+}
+
+#[test]
+fn each_complaint(rt: HostRuntime) -> Result<(), Fail> {
+    told(&rt, 1, Complaint::NotText, "line 1: the line is not UTF-8")?;
+    told(
+        &rt,
+        3,
+        Complaint::UnknownWord,
+        "line 3: the first word names no call (write, drop, spoil, read, trim, open, append, close, tally)",
+    )?;
+    told(
+        &rt,
+        4,
+        Complaint::WrongCount(5),
+        "line 4: this call takes 5 numbers",
+    )?;
+    told(
+        &rt,
+        4,
+        Complaint::WrongCount(1),
+        "line 4: this call takes 1 number",
+    )?;
+    told(
+        &rt,
+        5,
+        Complaint::BadNumber {
+            word: 2,
+            largest: u32::MAX,
+        },
+        "line 5: word 2 is not a decimal number from 0 to 4294967295",
+    )?;
+    told(
+        &rt,
+        9,
+        Complaint::NoRoom,
+        "line 9: the tape has no room for this call (refusal 17: the output area is too short)",
+    )?;
+    let unread = Unread::OutOfMemory;
+    check_eq(
+        format!(in rt.alloc(); "{unread}")?.as_str(),
+        "out of memory",
+    )
+}
