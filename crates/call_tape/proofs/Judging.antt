@@ -1,5 +1,6 @@
 -- Every tape of bytes is sound or has a first fault, and not both.
-use Rattle.std.proofs.Common.{◌≡◌, ℕ, ◌+◌, ◌≤◌, ◌⊎◌, List, [], ◌∷◌, ◌++◌, length, get_or, take, drop, Result, sym, refl, ap, ◌∙◌, inl, inr, subst, arith, length-append, length-drop, append-nil, append_assoc, take-append-drop}
+use Rattle.std.proofs.Common.{◌≡◌, ℕ, ◌+◌, ◌≤◌, ◌⊎◌, List, [], ◌∷◌, ◌++◌, length, get_or, take, drop, Result, sym, refl, ap, ◌∙◌, inl, inr, subst, arith, length-append, length-drop, append-nil, append_assoc, take-append-drop, IsOk, Ok, Err}
+use Rattle.std.specs.Bool.{⊤}
 use Rattle.std.proofs.lemmas.List.{length-take-le, take_all}
 use lib.Seq.{take-append_seam}
 use Rattle.refusal.specs.declared.Refusal.{Refusal}
@@ -13,11 +14,12 @@ use Rattle.call_tape.specs.Soundness.{Sound, Faulty, cut, FirstFault, long, call
 use Rattle.call_tape.specs.Soundness as sound
 use Rattle.call_tape.specs.Tapes.{Reads, end, short, field, Tape}
 use Rattle.call_tape.specs.Written.{encoded, written, AllSmall, placed}
+use Rattle.call_tape.specs.Writing.{Added, Holds}
 use Rattle.call_tape.proofs.Decoding.{decodes}
 use Rattle.call_tape.proofs.OnlyWritten.{Bytes, bytes_part, cut_up, digits}
 use Rattle.call_tape.proofs.Runs.{one_reading}
 use Rattle.call_tape.proofs.Written.{written_reads}
-use Rattle.call_tape.proofs.Writing.{written_more, small_more}
+use Rattle.call_tape.proofs.Writing.{written_more, length_written_append, small_more, held_length}
 
 -- behind the calls cs the tape says the readings rs: it is sound, or one of them is its first fault
 abbrev pub Verdict : List ℕ → List Call → List Reading → Type 0
@@ -89,4 +91,12 @@ sound_faultless T cs rs (l, small, is) h =
     ap faults_in (one_reading T rs (placed 0 cs) h w) ∙ placed_faultless 0 cs
 
 pub written_again : WrittenAgain
-written_again T Z A u cs (l, small, is) (small', at, within, laid) = rw (laid, at) (take-append_seam (written cs) _ ∙ sym is)
+written_again = record { accepted = accepted; same = same }
+  where
+    accepted : (T Z A B : List ℕ) (u v : ℕ) (before after : List Call) (c : Call) (r : Result ⊤ Refusal)
+        → Sound T (before ++ c ∷ after) → length T ≤ length Z → Holds Z A u before → Added A u (encoded c) r B v → IsOk r
+    accepted T Z A B u v before after c (Ok x) sound fit held added = refl
+    accepted T Z A B u v before after c (Err e) sound fit held added = absurd (omega (arith, sound.0, ap length sound.2, length_written_append before (c ∷ after), length-append (encoded c) (written after), held.1, held_length Z A u before held, added.0))
+
+    same : (T Z A : List ℕ) (u : ℕ) (cs : List Call) → Sound T cs → Holds Z A u cs → take u A ≡ T
+    same T Z A u cs (l, small, is) (small', at, within, laid) = rw (laid, at) (take-append_seam (written cs) _ ∙ sym is)

@@ -15,6 +15,10 @@ pub written_more : (cs : List Call) (c : Call) → written (cs ++ c ∷ []) ≡ 
 written_more [] c = append-nil (encoded c)
 written_more (d ∷ cs) c = ap (λ z. encoded d ++ z) (written_more cs c) ∙ sym (append_assoc (encoded d) (written cs) (encoded c))
 
+pub length_written_append : (cs ds : List Call) → length (written (cs ++ ds)) ≡ length (written cs) + length (written ds)
+length_written_append [] ds = omega arith
+length_written_append (c ∷ cs) ds = simp length-append (omega (arith, length_written_append cs ds))
+
 pub small_more : (cs : List Call) (c : Call) → AllSmall cs → Small c → AllSmall (cs ++ c ∷ [])
 small_more [] c h s = (s, tt)
 small_more (d ∷ cs) c h s = (h.0, small_more cs c h.1 s)

@@ -1,5 +1,6 @@
 -- What the contracts of the tape cite.
 pub mod Calls
+pub mod Faults
 pub mod Fields
 pub mod Soundness
 pub mod Tapes

@@ -3,11 +3,12 @@
 --   Faulty T p e     the field at the place p of T has the fault e
 --   FirstFault T f   f is the first fault of T: what stands before it is the tape of calls
 --   calls_in rs, faults_in rs   the calls, and the faults, among the readings rs, in order
---   Judged T r       the judgment r of T: its calls where it is sound, or else all its faults, of which the first is named
---   WrittenAgain     a sound tape's calls, written into any area, give that tape
+--   Unsound T all    T has faults, all of them in order, of which the first is named
+--   Judged T r       the judgment r of T: its calls where it is sound, or else all its faults
+--   WrittenAgain     a sound tape's calls, added in order to a new tape in any area, give that tape
 --   SoundFaultless   a sound tape says no fault
 -- Assumes nothing.
-use Rattle.std.specs.Prelude.{◌≡◌, ℕ, ◌<◌, ◌≤◌, List, [], ◌∷◌, length, take, Ok, Err, Result, ◌≢◌, Vec}
+use Rattle.std.specs.Prelude.{◌≡◌, ℕ, ◌<◌, ◌≤◌, List, [], ◌∷◌, ◌++◌, length, take, Ok, Err, Result, IsOk, ◌≢◌, Vec, ⊤}
 use Rattle.refusal.specs.declared.Refusal.{Refusal}
 use Rattle.refusal.specs.declared.Refusal.TheVariants.{FieldCutShort, UnknownTag, WrongFieldLength, TapeTooLong}
 use Rattle.call_tape.specs.declared.calls.Call.{Call}
@@ -16,8 +17,8 @@ use Rattle.call_tape.specs.declared.fields.Reading.{Reading}
 use Rattle.call_tape.specs.Calls.{tag_of, contents_of}
 use Rattle.call_tape.specs.Fields.{tag_at, size_at, Whole, Cut}
 use Rattle.call_tape.specs.Tapes.{Tape}
-use Rattle.call_tape.specs.Written.{written, AllSmall}
-use Rattle.call_tape.specs.Writing.{Holds}
+use Rattle.call_tape.specs.Written.{encoded, written, AllSmall}
+use Rattle.call_tape.specs.Writing.{Added, Holds}
 
 abbrev pub Sound : List ℕ → List Call → Type 0
 Sound T cs = (length T ≤ 65535) × AllSmall cs × (T ≡ written cs)
@@ -41,12 +42,18 @@ abbrev pub faults_in : List Reading → List Fault
 faults_in [] = []
 faults_in (r ∷ rs) = elim r.outcome [ Ok c ↦ faults_in rs | Err e ↦ record { place = r.place; refusal = e } ∷ faults_in rs ]
 
+abbrev pub Unsound : List ℕ → List Fault → Type 0
+Unsound T all = (f : Fault) × (fs : List Fault) × (rs : List Reading) × (all ≡ f ∷ fs) × FirstFault T f × Tape T rs × (all ≡ faults_in rs)
+
 abbrev pub Judged : {A : Type 0} → List ℕ → Result (Vec Call A) (Vec Fault A) → Type 0
 Judged T (Ok v) = Sound T v.items
-Judged T (Err v) = (f : Fault) × (fs : List Fault) × (rs : List Reading) × (v.items ≡ f ∷ fs) × FirstFault T f × Tape T rs × (v.items ≡ faults_in rs)
+Judged T (Err v) = Unsound T v.items
 
-abbrev pub WrittenAgain : Type 0
-WrittenAgain = (T Z A : List ℕ) (u : ℕ) (cs : List Call) → Sound T cs → Holds Z A u cs → take u A ≡ T
+-- each call is accepted where the area has room for the tape, and in the end the tape is there
+pub record WrittenAgain : Type 0 where
+  pub accepted : (T Z A B : List ℕ) (u v : ℕ) (before after : List Call) (c : Call) (r : Result ⊤ Refusal)
+      → Sound T (before ++ c ∷ after) → length T ≤ length Z → Holds Z A u before → Added A u (encoded c) r B v → IsOk r
+  pub same : (T Z A : List ℕ) (u : ℕ) (cs : List Call) → Sound T cs → Holds Z A u cs → take u A ≡ T
 
 abbrev pub SoundFaultless : Type 0
 SoundFaultless = (T : List ℕ) (cs : List Call) (rs : List Reading) → Sound T cs → Tape T rs → faults_in rs ≡ []

@@ -1,5 +1,5 @@
 -- Calls added to a tape in an area, one behind the other.
---   room A            the bytes that a tape in the area A can have
+--   room A            how many bytes a tape in the area A can have
 --   Added A u xs r B v   the bytes xs, added behind the first u of the area A, give the answer r, the area B and v bytes of tape
 --   Holds Z A u cs    the area A is Z with the tape of the calls cs, of u bytes, at its start
 --   with_added cs c r the calls of a tape of cs, to which c was added with the answer r

@@ -1,6 +1,7 @@
 // What is wrong with a tape, and where.
-ghost use Rattle.std.specs.Prelude.{◌≡◌};
+ghost use Rattle.std.specs.Prelude.{◌≡◌, Some};
 ghost use Rattle.refusal.specs.Numbers.{code, depth, layer_of};
+ghost use Rattle.call_tape.specs.Faults.{fault_words, fault_text};
 
 use refusal::{Layer, Refusal};
 use std::fmt;
@@ -27,11 +28,30 @@ impl Fault {
     }
 }
 
+// What is wrong, in words.
+fn fault_words(refusal: Refusal) -> &'static str
+    ensures { result.now ≡ fault_words refusal }
+{
+    match refusal {
+        Refusal::FieldCutShort => "the tape ends inside the field",
+        Refusal::UnknownTag => "no call has the tag",
+        Refusal::WrongFieldLength => "the length is wrong for the tag",
+        Refusal::TapeTooLong => "the tape is above 65,535 bytes",
+        _ => "no fault of a tape",
+    }
+}
+
 impl Display for Fault {
+    ghost output = { λ f. Some (fault_text f) };
+
     fn fmt<W: fmt::Write>(&self, f: &mut Formatter<W>) -> fmt::Result {
-        let place = self.place;
-        let layer = self.layer().number();
-        let refusal = self.refusal;
-        write!(f, "place {place}: layer {layer}, {refusal}")
+        let words = fault_words(self.refusal);
+        write!(
+            f,
+            "place {}: layer {}, fault {}: {words}",
+            self.place,
+            self.layer().number(),
+            self.number()
+        )
     }
 }

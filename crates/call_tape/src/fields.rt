@@ -7,8 +7,8 @@ use crate::calls::{Call, decode};
 use crate::faults::Fault;
 use refusal::Refusal;
 
-// A longer tape is refused whole, so that every place fits two bytes.
-pub(crate) const LIMIT: usize = 65_535;
+// The most bytes of a tape. A longer one is refused whole, so that every place fits two bytes.
+pub const LIMIT: usize = 65_535;
 
 // A whole field; its contents are a part of the tape.
 #[derive(Clone, Copy, PartialEq, Eq, Debug)]

@@ -10,7 +10,7 @@ mod writer;
 
 pub use calls::{Call, Opening, decode};
 pub use faults::Fault;
-pub use fields::{Field, Reader, Reading};
+pub use fields::{Field, LIMIT, Reader, Reading};
 pub use soundness::sound_calls;
 pub use whole::readings;
 pub use writer::Writer;

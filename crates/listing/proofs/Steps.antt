@@ -25,8 +25,8 @@ use Rattle.call_tape.proofs.Runs.{opened_reads, unopened_reads}
 use Rattle.listing.specs.declared.lines.Line.{Line}
 use Rattle.listing.specs.declared.lines.Reply.{Reply}
 use Rattle.listing.specs.declared.lines.Reply.TheVariants.{Block}
-use Rattle.listing.specs.Lines.{replied, Untold, Obeys, Answered}
-use Rattle.listing.specs.Plays.{events_of, Stands, Apart, Tells, Plays, nothing, call, fault, refused_with, fault_of, faulted, Came, Adds, PlaysOn, Played}
+use Rattle.listing.specs.Lines.{replied, Unserved, Obeys, Answered}
+use Rattle.listing.specs.Plays.{events_of, Stands, NoCall, Tells, Plays, nothing, call, fault, refused_with, fault_of, faulted, Came, Adds, PlaysOn, Played}
 
 -- ---- one call
 
@@ -39,8 +39,8 @@ module _ {L B S : Type 0} (bm : Ghosts B L Entry) (sm : Ghosts S StreamLabel Pos
       after (Ok b) on = on
       after (Err e) on = on
 
-  apart : (h : History) (o : Result Reply Refusal) → Untold bm sm s o t → Lived bm sm h s → (new : History) × Apart o new × Lived bm sm (new ++ h) t × Fixed bm sm s t
-  apart h o (is, same) lived = ([], (is, refl), rw same lived, subst (Fixed bm sm s) (sym same) (fixed_none bm sm s))
+  no_call : (h : History) (o : Result Reply Refusal) → Unserved bm sm s o t → Lived bm sm h s → (new : History) × NoCall o new × Lived bm sm (new ++ h) t × Fixed bm sm s t
+  no_call h o (is, same) lived = ([], (is, refl), rw same lived, subst (Fixed bm sm s) (sym same) (fixed_none bm sm s))
 
   tells : (h : History) (c : Call) (o : Result Reply Refusal) → Obeys bm sm s c o t → Lived bm sm h s → (new : History) × Tells c o new × Lived bm sm (new ++ h) t × Fixed bm sm s t
   tells h (Write n) o p lived = passing h Commit n o p lived
@@ -48,9 +48,9 @@ module _ {L B S : Type 0} (bm : Ghosts B L Entry) (sm : Ghosts S StreamLabel Pos
   tells h (Spoil n) o p lived = passing h Condemn n o p lived
   tells h (Read n) o p lived = (_, (p.answer, p.outcome, refl), p.step h lived, reads_fixed bm sm s t n p.answer p.leaves)
   tells h (Trim n) o p lived = (_, (p.answer, p.outcome, refl), p.step h lived, trims_fixed bm sm s t n p.answer p.leaves)
-  tells h (Open x) o p lived = apart h o p lived
-  tells h (Append l) o p lived = apart h o p lived
-  tells h (Close l) o p lived = apart h o p lived
+  tells h (Open x) o p lived = no_call h o p lived
+  tells h (Append l) o p lived = no_call h o p lived
+  tells h (Close l) o p lived = no_call h o p lived
   tells h CallTally o p lived = (_, (p.answer, p.outcome, refl), p.step h lived, subst (Fixed bm sm s) (sym p.leaves) (fixed_none bm sm s))
 
   -- a service whose check failed

@@ -2,7 +2,7 @@
 --   reply_of o          the reply to a read or a trim that answered o
 --   replied f r         the outcome where the service answered r, and f is its reply
 --   Answered s ..       an answer of the service s, with its outcome and what it then is
---   Untold s o t        the service s is not told of a stream's call
+--   Unserved s o t      no service serves a stream's call yet: s stays as it is
 --   Obeys s c o t       the service s obeys the call c of a tape: the outcome is o, and it is then t
 -- Assumes nothing.
 use Rattle.std.specs.Prelude.{◌≡◌, ℕ, Some, None, Ok, Err, Option, Result}
@@ -41,8 +41,8 @@ module _ {L B S : Type 0} (bm : Ghosts B L Entry) (sm : Ghosts S StreamLabel Pos
     pub faulty : Faulty bm sm s (said answer) t
 
   -- the call of a stream: no service obeys one yet, so its tag counts as unknown
-  abbrev pub Untold : Result Reply Refusal → Blocks L B S → Type 0
-  Untold o t = (o ≡ Err UnknownTag) × (t ≡ s)
+  abbrev pub Unserved : Result Reply Refusal → Blocks L B S → Type 0
+  Unserved o t = (o ≡ Err UnknownTag) × (t ≡ s)
 
   -- a write, a drop and a spoil are a begin and its ending, and a tally leaves the service as it is
   abbrev pub Obeys : Call → Result Reply Refusal → Blocks L B S → Type 0
@@ -51,7 +51,7 @@ module _ {L B S : Type 0} (bm : Ghosts B L Entry) (sm : Ghosts S StreamLabel Pos
   Obeys (Spoil n) o t = Answered Block finished (Through bm sm s Condemn n) (Passes bm sm s Condemn n) o t
   Obeys (Read n) o t = Answered reply_of found (λ r. Goes bm sm s (read n) (found r)) (Reads bm sm s n) o t
   Obeys (Trim n) o t = Answered reply_of found (λ r. Goes bm sm s (trim n) (found r)) (Trims bm sm s n) o t
-  Obeys (Open x) o t = Untold o t
-  Obeys (Append l) o t = Untold o t
-  Obeys (Close l) o t = Untold o t
+  Obeys (Open x) o t = Unserved o t
+  Obeys (Append l) o t = Unserved o t
+  Obeys (Close l) o t = Unserved o t
   Obeys CallTally o t = Answered Counts tallied (λ r. Goes bm sm s tally (tallied r)) (λ _ u. u ≡ s) o t

@@ -1,6 +1,6 @@
 -- What a whole tape is to a service.
 --   Stands f g o new  the outcome o and the calls and answers new are those of one answer, by f and g
---   Apart o new       the outcome o of a stream's call, which no service knows
+--   NoCall o new       the outcome o of a stream's call, which no service knows
 --   Tells c o new     the call c of a tape, with the outcome o, stands for the calls and answers new, the newest first
 --   Plays rs ls h     the readings rs of a tape, played in order, give the lines ls and the history h
 --   refused_with e c  why a service whose check failed with e refuses the call c
@@ -44,8 +44,8 @@ abbrev pub Stands : {A : Type 0} → (A → Reply) → (Result A Refusal → His
 Stands {A} f events o new = (r : Result A Refusal) × (o ≡ replied f r) × (new ≡ events r)
 
 -- the call of a stream stands for no call of the service
-abbrev pub Apart : Result Reply Refusal → History → Type 0
-Apart o new = (o ≡ Err UnknownTag) × (new ≡ [])
+abbrev pub NoCall : Result Reply Refusal → History → Type 0
+NoCall o new = (o ≡ Err UnknownTag) × (new ≡ [])
 
 abbrev pub Tells : Call → Result Reply Refusal → History → Type 0
 Tells (Write n) o new = Stands Block (events_of Commit n) o new
@@ -53,9 +53,9 @@ Tells (Drop n) o new = Stands Block (events_of Abandon n) o new
 Tells (Spoil n) o new = Stands Block (events_of Condemn n) o new
 Tells (Read n) o new = Stands reply_of (λ r. (read n, found r) ∷ []) o new
 Tells (Trim n) o new = Stands reply_of (λ r. (trim n, found r) ∷ []) o new
-Tells (Open x) o new = Apart o new
-Tells (Append l) o new = Apart o new
-Tells (Close l) o new = Apart o new
+Tells (Open x) o new = NoCall o new
+Tells (Append l) o new = NoCall o new
+Tells (Close l) o new = NoCall o new
 Tells CallTally o new = Stands Counts (λ r. (tally, tallied r) ∷ []) o new
 
 -- ---- all readings, the last one last

@@ -26,7 +26,7 @@ use Rattle.blocks.specs.declared.pool.Mark.{Mark}
 use Rattle.call_tape.specs.declared.calls.Call.{Call as TapeCall}
 use Rattle.call_tape.specs.declared.calls.Call.TheVariants.{Write, Drop, Spoil, Read, Trim, Open, Append, Close, Tally as CallTally}
 use Rattle.listing.specs.declared.lines.Reply.{Reply}
-use Rattle.listing.specs.Lines.{Untold, Obeys}
+use Rattle.listing.specs.Lines.{Unserved, Obeys}
 use Rattle.service_examples.specs.Holding.{Held, Ready, Keeps}
 
 -- ---- one step
@@ -138,8 +138,8 @@ module _ {L B S : Type 0} (bm : Ghosts B L Entry) (sm : Ghosts S StreamLabel Pos
       lives = λ h lived. two v m r (passes_fixed bm sm s t v m r leaves) h (step h lived);
     }
 
-    untold_keeps : (o : Result Reply Refusal) → Untold bm sm s o t → Keeps bm sm s t
-    untold_keeps o (is, same) = subst (Keeps bm sm s) (sym same) (keeps_none s)
+    unserved_keeps : (o : Result Reply Refusal) → Unserved bm sm s o t → Keeps bm sm s t
+    unserved_keeps o (is, same) = subst (Keeps bm sm s) (sym same) (keeps_none s)
 
     pub obeys_keep : (c : TapeCall) (o : Result Reply Refusal) → Obeys bm sm s c o t → Keeps bm sm s t
     obeys_keep (Write n) o p = passes_keep Commit n p.answer p.step p.leaves p.faulty
@@ -153,9 +153,9 @@ module _ {L B S : Type 0} (bm : Ghosts B L Entry) (sm : Ghosts S StreamLabel Pos
       faulty = still_faulty _ p.faulty;
       lives = λ h lived. one (trim n) _ (keeps_trim n _) (trims_fixed bm sm s t n p.answer p.leaves) h (p.step h lived);
     }
-    obeys_keep (Open x) o p = untold_keeps o p
-    obeys_keep (Append l) o p = untold_keeps o p
-    obeys_keep (Close l) o p = untold_keeps o p
+    obeys_keep (Open x) o p = unserved_keeps o p
+    obeys_keep (Append l) o p = unserved_keeps o p
+    obeys_keep (Close l) o p = unserved_keeps o p
     obeys_keep CallTally o p = record {
       faulty = still_faulty _ p.faulty;
       lives = λ h lived. one tally _ (keeps_tally _) (subst (Fixed bm sm s) (sym p.leaves) (fixed_none bm sm s)) h (p.step h lived);

@@ -154,6 +154,6 @@ fn a_fault_in_words(rt: HostRuntime) -> Result<(), Fail> {
     let text = format!(in rt.alloc(); "{fault}")?;
     check_eq(
         text.as_str(),
-        "place 24: layer 2, refusal 14: the tag is unknown",
+        "place 24: layer 2, fault 14: no call has the tag",
     )
 }
