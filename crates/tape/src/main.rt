@@ -2,15 +2,12 @@
 #![tactic(auto)]
 
 use anyhow::{anyhow, bail};
-use call_tape::sound_calls;
+use call_tape::LIMIT;
 use std::env;
 use std::io::{Read, Write};
-use tape_text::{tape_of, text_of};
+use tape_text::{tape_of, text_of_tape};
 
 const USAGE: &str = "usage: tape encode < TEXT > TAPE, or tape decode < TAPE > TEXT";
-
-// The longest tape there is.
-const LONGEST: usize = 65_535;
 
 #[derive(Clone, Copy)]
 enum Direction {
@@ -32,7 +29,7 @@ fn asked_direction(arguments: &[String]) -> Option<Direction> {
 
 // Writes the tape of the text, or nothing where a line cannot be read.
 fn encode(rt: &HostRuntime, text: &[u8]) -> anyhow::Result<()> {
-    let mut area = vec![in rt.alloc(); 0u8; LONGEST]?;
+    let mut area = vec![in rt.alloc(); 0u8; LIMIT]?;
     let count = tape_of(text, area.as_mut_slice(), rt.alloc())?;
     area.truncate(count);
     rt.stdout().write_all(area.as_slice())?;
@@ -42,11 +39,10 @@ fn encode(rt: &HostRuntime, text: &[u8]) -> anyhow::Result<()> {
 
 // Writes the text of a sound tape, or nothing but the faults of another.
 fn decode(rt: &HostRuntime, tape: &[u8]) -> anyhow::Result<()> {
-    match sound_calls(tape, rt.alloc())? {
-        Ok(calls) => {
-            let text = text_of(&calls, rt.alloc())?;
+    match text_of_tape(tape, rt.alloc())? {
+        Ok(text) => {
             rt.stdout().write_all(text.as_bytes())?;
-            eprintln!(rt; "calls: {}", calls.len())?;
+            eprintln!(rt; "bytes of text: {}", text.len())?;
             Ok(())
         }
         Err(faults) => {

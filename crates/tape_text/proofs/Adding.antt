@@ -1,11 +1,11 @@
 -- Lines that are added to a tape, one behind the other.
-use Rattle.std.proofs.Common.{◌≡◌, ℕ, ◌+◌, ◌<◌, List, [], ◌∷◌, ◌++◌, length, Result, Ok, Err, IsErr, IsErrAnd, refl, arith, length-append}
+use Rattle.std.proofs.Common.{◌≡◌, ℕ, ◌<◌, List, [], ◌∷◌, ◌++◌, length, Result, Ok, Err, IsErr, IsErrAnd, refl, arith, length-append}
 use Rattle.std.specs.Bool.{⊤}
 use Rattle.std.proofs.lemmas.Result.{err_from_is_err_and}
 use Rattle.refusal.specs.declared.Refusal.{Refusal}
 use Rattle.call_tape.specs.declared.calls.Call.{Call}
 use Rattle.call_tape.specs.Written.{encoded, written}
-use Rattle.call_tape.proofs.Writing.{held_length}
+use Rattle.call_tape.proofs.Writing.{length_written_append, held_length}
 use Rattle.call_tape.specs.Writing.{room, Holds, Added}
 use Rattle.tape_text.specs.declared.complaints.LineFault.{LineFault}
 use Rattle.tape_text.specs.declared.complaints.Complaint.TheVariants.{NoRoom}
@@ -14,10 +14,6 @@ use Rattle.tape_text.specs.declared.complaints.Unread.TheVariants.{OutOfMemory, 
 use Rattle.tape_text.specs.Calls.{Says}
 use Rattle.tape_text.specs.Lines.{words, LineRead}
 use Rattle.tape_text.specs.Taken.{wrong, full, LineAdded}
-
-pub length_written_append : (cs ds : List Call) → length (written (cs ++ ds)) ≡ length (written cs) + length (written ds)
-length_written_append [] ds = omega arith
-length_written_append (c ∷ cs) ds = simp length-append (omega (arith, length_written_append cs ds))
 
 -- a line that says no call, or is out of memory
 module _ (L : List ℕ) (i : ℕ) (Z : List ℕ) (cs : List Call) (B : List ℕ) (u : ℕ) where

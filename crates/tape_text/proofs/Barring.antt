@@ -7,7 +7,7 @@ use Rattle.tape_text.specs.Numbers.{Numbers, FirstBad, Complains, count, number}
 use Rattle.tape_text.specs.Calls.{tops_of, values_of, Says, Wrong, unknown, numbers, OneMeaning}
 use Rattle.tape_text.specs.Lines.{words, LinesSay, end, blank, call}
 use Rattle.tape_text.specs.Taken.{Barred, wrong, full}
-use Rattle.tape_text.proofs.Adding.{length_written_append}
+use Rattle.call_tape.proofs.Writing.{length_written_append}
 use Rattle.tape_text.proofs.Once.{alike, says_once}
 
 numbers_length : (tops : List ℕ) (ws : List (List ℕ)) (ns : List ℕ) → Numbers tops ws ns → length ws ≡ length tops

@@ -3,3 +3,4 @@ pub mod Numbers
 pub mod Calls
 pub mod Lines
 pub mod Taken
+pub mod Words

@@ -1,7 +1,7 @@
 -- The numbers of a call, as words.
 --   texts ws           the texts of the words ws
 --   Number top w n     the word w is a decimal numeral of the number n, which is `top` or less; a plus may lead
---   NoNumber top w     it is a numeral of no such number
+--   NoNumber top w     w is no numeral of a number up to `top`
 --   Numbers tops ws ns the words ws are numerals of the numbers ns, one for each of the largest numbers `tops`
 --   FirstBad tops ws i j top   the words stand from the place i on; that at j is the first that is no numeral up to its largest number, `top`
 --   Complains tops ws e   e says what is wrong with the words ws, where numbers up to `tops` are wanted

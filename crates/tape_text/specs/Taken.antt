@@ -1,4 +1,4 @@
--- A whole text, taken as a tape.
+-- A whole text, taken as a tape, and a whole tape as text.
 --   NoText text f       the text is not UTF-8; f is the fault, on the line of the first byte that is none
 --   Barred n cs L e     the line L cannot be added behind the calls cs in a room of n bytes, and e is why
 --   LineAdded L i Z cs r B u   the line L, of the number i, is added behind the calls cs in the area Z: the answer is r, the area is then B, with a tape of u bytes
@@ -8,14 +8,16 @@
 --   Taped text A r B    r is the length of the tape of the text in the area A, or why there is none, and A is left as B
 --   Agree r B s C       r and s, with the areas B and C, are one tape, or one fault, as far as memory lasts
 --   OneTaping           a text gives one tape or one fault, and leaves one area
+--   Worded T r          r is the text of the tape T, or all its faults
 --   GivesBack           the text of a sound tape's calls gives that tape, where the area has room for it
 -- Assumes nothing.
-use Rattle.std.specs.Prelude.{◌≡◌, ℕ, ◌+◌, ◌<◌, ◌≤◌, ◌⊎◌, List, [], ◌∷◌, ◌++◌, length, take, Ok, Err, Result, MatchResult, ⊤}
+use Rattle.std.specs.Prelude.{◌≡◌, ℕ, ◌+◌, ◌<◌, ◌≤◌, ◌⊎◌, List, [], ◌∷◌, ◌++◌, length, take, Ok, Err, Result, MatchResult, ⊤, Vec, String, string_bytes}
 use Rattle.std.specs.Str.{IsUtf8}
 use Rattle.std.specs.Str.Lines.{lines}
 use Rattle.utf8.specs.Lines.{line_of_fault}
 use Rattle.call_tape.specs.declared.calls.Call.{Call}
-use Rattle.call_tape.specs.Soundness.{Sound}
+use Rattle.call_tape.specs.declared.faults.Fault.{Fault}
+use Rattle.call_tape.specs.Soundness.{Sound, Unsound}
 use Rattle.call_tape.specs.Written.{written}
 use Rattle.call_tape.specs.Writing.{room, Holds}
 use Rattle.tape_text.specs.declared.complaints.Complaint.{Complaint}
@@ -69,6 +71,11 @@ Agree (Err e) B (Err f) C = (e ≡ OutOfMemory) ⊎ ((f ≡ OutOfMemory) ⊎ ((e
 
 abbrev pub OneTaping : Type 0
 OneTaping = (text A B C : List ℕ) (r s : Result ℕ Unread) → Taped text A r B → Taped text A s C → Agree r B s C
+
+-- the text of its calls; or its faults, of which the first is named
+abbrev pub Worded : {A : Type 0} → List ℕ → Result (String A) (Vec Fault A) → Type 0
+Worded T (Ok s) = (cs : List Call) × Sound T cs × (string_bytes s ≡ said cs)
+Worded T (Err v) = Unsound T v.items
 
 abbrev pub GivesBack : Type 0
 GivesBack = (T A B : List ℕ) (cs : List Call) (r : Result ℕ Unread) → Sound T cs → length T ≤ length A → Taped (said cs) A r B → MatchResult r (λ n. take n B ≡ T) (λ e. e ≡ OutOfMemory)

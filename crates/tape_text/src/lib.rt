@@ -8,4 +8,4 @@ mod whole;
 
 pub use complaints::{Complaint, LineFault, Unread};
 pub use lines::{CallText, call_in};
-pub use whole::{tape_of, text_of};
+pub use whole::{tape_of, text_of, text_of_tape};

@@ -5,7 +5,7 @@ ghost use Rattle.tape_text.specs.Calls.{number_tops, label_tops, opening_tops, l
 ghost use Rattle.tape_text.specs.Lines.{words, LineRead};
 
 use crate::complaints::{Complaint, LineFault, Unread};
-use crate::numbers::{byte_in, half_in, whole_in};
+use crate::numbers::{u8_in, u16_in, u32_in};
 use call_tape::{Call, Opening};
 use label::StreamLabel;
 use std::alloc::Global;
@@ -50,7 +50,7 @@ fn number_in(words: &[&str]) -> Result<u32, Complaint>
     ensures { ReadsAll number_tops (texts words.now) (λ n. n ∷ []) result }
 {
     match *words {
-        [number] => whole_in(2, number),
+        [number] => u32_in(2, number),
         _ => Err(Complaint::WrongCount(1)),
     }
 }
@@ -62,9 +62,9 @@ fn stream_in(words: &[&str]) -> Result<StreamLabel, Complaint>
 {
     match *words {
         [port, channel, session] => Ok(StreamLabel {
-            port: byte_in(2, port)?,
-            channel: half_in(3, channel)?,
-            session: byte_in(4, session)?,
+            port: u8_in(2, port)?,
+            channel: u16_in(3, channel)?,
+            session: u8_in(4, session)?,
         }),
         _ => Err(Complaint::WrongCount(3)),
     }
@@ -78,12 +78,12 @@ fn opening_in(words: &[&str]) -> Result<Opening, Complaint>
     match *words {
         [port, channel, session, first, length] => Ok(Opening {
             stream: StreamLabel {
-                port: byte_in(2, port)?,
-                channel: half_in(3, channel)?,
-                session: byte_in(4, session)?,
+                port: u8_in(2, port)?,
+                channel: u16_in(3, channel)?,
+                session: u8_in(4, session)?,
             },
-            first: whole_in(5, first)?,
-            length: whole_in(6, length)?,
+            first: u32_in(5, first)?,
+            length: u32_in(6, length)?,
         }),
         _ => Err(Complaint::WrongCount(5)),
     }

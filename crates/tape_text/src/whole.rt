@@ -4,11 +4,11 @@ ghost use Rattle.std.specs.Str.{IsUtf8};
 ghost use Rattle.call_tape.specs.Writing.{Holds};
 ghost use Rattle.call_tape.specs.declared.calls.Call.{Call as CallValue};
 ghost use Rattle.tape_text.specs.Lines.{said, SaidReads, OneSaying};
-ghost use Rattle.tape_text.specs.Taken.{NoText, LineAdded, Taped, OneTaping, GivesBack};
+ghost use Rattle.tape_text.specs.Taken.{NoText, LineAdded, Taped, OneTaping, Worded, GivesBack};
 
 use crate::complaints::{Complaint, LineFault, Unread};
 use crate::lines::{CallText, call_in};
-use call_tape::{Call, Writer};
+use call_tape::{Call, Fault, Writer, sound_calls};
 use std::alloc::{AllocError, Global};
 
 // The text of the calls, a line for each.
@@ -23,6 +23,16 @@ pub fn text_of(calls: &[Call], heap: Global) -> Result<String, AllocError>
         writeln!(text, "{call}")?;
     }
     Ok(text)
+}
+
+// The text of a sound tape, or every fault of another.
+pub fn text_of_tape(tape: &[u8], heap: Global) -> Result<Result<String, Vec<Fault>>, AllocError>
+    ensures { IfOk result (Worded tape.now) }
+{
+    Ok(match sound_calls(tape, heap)? {
+        Ok(calls) => Ok(text_of(&calls, heap)?),
+        Err(faults) => Err(faults),
+    })
 }
 
 // The bytes as text.
@@ -49,7 +59,8 @@ fn add_line(writer: &mut Writer, number: usize, line: &str, heap: Global) -> Res
     Ok(())
 }
 
-// Puts the tape of the calls that the lines of a text say, in order, at the start of the area, and answers its length. Where a line is refused, the calls of the lines before it stand there.
+// Puts the tape of the calls that the lines of a text say, in order, at the start of the area, and answers its length.
+// Where a line is refused, the calls of the lines before it stand there; a text that is not UTF-8 is refused for that alone, and the area stays as it is.
 pub fn tape_of(bytes: &[u8], area: &mut [u8], heap: Global) -> Result<usize, Unread>
     ensures taped { Taped bytes.now area.old result area.new }
     ensures once { OneTaping }

@@ -1,8 +1,9 @@
 // Lines and blanks, and texts and tapes that come round again.
-use call_tape::sound_calls;
+use call_tape::Fault;
 use checks::check_eq;
+use refusal::Refusal;
 use std::test::*;
-use tape_text::{tape_of, text_of};
+use tape_text::{tape_of, text_of_tape};
 
 // The text gives the tape of `read 1`, `tally` and `drop 2`.
 fn three_calls(rt: &HostRuntime, text: &str) -> Result<(), Fail> {
@@ -36,10 +37,24 @@ fn a_text_that_says_nothing(rt: HostRuntime) -> Result<(), Fail> {
     check_eq(area, [7; 2])
 }
 
-// The text of the calls on this tape.
-fn text_of_tape(rt: &HostRuntime, tape: &[u8]) -> Result<String, Fail> {
-    let calls = sound_calls(tape, rt.alloc())?.ok().ok_or("a fault")?;
-    Ok(text_of(&calls, rt.alloc())?)
+fn sound_text(rt: &HostRuntime, tape: &[u8]) -> Result<String, Fail> {
+    Ok(text_of_tape(tape, rt.alloc())?.ok().ok_or("a fault")?)
+}
+
+#[test]
+fn a_tape_with_faults_has_no_text(rt: HostRuntime) -> Result<(), Fail> {
+    let faults = text_of_tape(&[9, 0, 0, 10, 0, 0, 9, 0], rt.alloc())?
+        .err()
+        .ok_or("a text")?;
+    let unknown = Fault {
+        place: 3,
+        refusal: Refusal::UnknownTag,
+    };
+    let cut = Fault {
+        place: 6,
+        refusal: Refusal::FieldCutShort,
+    };
+    check_eq(faults.as_slice(), &[unknown, cut])
 }
 
 #[test]
@@ -49,7 +64,7 @@ fn from_text_to_tape_to_text(rt: HostRuntime) -> Result<(), Fail> {
     let count = tape_of(text.as_bytes(), &mut area, rt.alloc())?;
     let tape = area.get(..count).ok_or("no tape")?;
     check_eq(
-        text_of_tape(&rt, tape)?.as_str(),
+        sound_text(&rt, tape)?.as_str(),
         "open 1 2 3 4 5\nappend 1 2 3\nwrite 7\ntally\nclose 1 2 3\n",
     )
 }
@@ -60,7 +75,7 @@ fn from_tape_to_text_to_tape(rt: HostRuntime) -> Result<(), Fail> {
         9, 0, 0, 6, 0, 12, 1, 2, 3, 4, 5, 6, 7, 8, 9, 10, 11, 12, 5, 0, 4, 255, 254, 253, 252, 8,
         0, 4, 0, 1, 0, 255, 9, 0, 0,
     ];
-    let text = text_of_tape(&rt, &tape)?;
+    let text = sound_text(&rt, &tape)?;
     let mut area = [0; 64];
     let count = tape_of(text.as_bytes(), &mut area, rt.alloc())?;
     check_eq(area.get(..count), Some(tape.as_slice()))

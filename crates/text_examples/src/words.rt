@@ -31,18 +31,24 @@ fn each_complaint(rt: HostRuntime) -> Result<(), Fail> {
     )?;
     told(
         &rt,
-        5,
+        10,
+        Complaint::WrongCount(0),
+        "line 10: this call takes 0 numbers",
+    )?;
+    told(
+        &rt,
+        123,
         Complaint::BadNumber {
             word: 2,
             largest: u32::MAX,
         },
-        "line 5: word 2 is not a decimal number from 0 to 4294967295",
+        "line 123: word 2 is not a decimal number from 0 to 4294967295",
     )?;
     told(
         &rt,
-        9,
+        21_846,
         Complaint::NoRoom,
-        "line 9: the tape has no room for this call (refusal 17: the output area is too short)",
+        "line 21846: the tape has no room for this call (refusal 17)",
     )?;
     let unread = Unread::OutOfMemory;
     check_eq(
