@@ -30,7 +30,7 @@ fn asked_direction(arguments: &[String]) -> Option<Direction> {
 // Writes the tape of the text, or nothing where a line cannot be read.
 fn encode(rt: &HostRuntime, text: &[u8]) -> anyhow::Result<()> {
     let mut area = vec![in rt.alloc(); 0u8; LIMIT]?;
-    let count = tape_of(text, area.as_mut_slice(), rt.alloc())?;
+    let count = tape_of(text, area.as_mut_slice())?;
     area.truncate(count);
     rt.stdout().write_all(area.as_slice())?;
     eprintln!(rt; "bytes of tape: {count}")?;

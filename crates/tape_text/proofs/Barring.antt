@@ -1,16 +1,18 @@
 -- A line that is barred is no line that says a call which fits, and is barred for one reason.
-use Rattle.std.proofs.Common.{Some, None, Ok, Err, ◌≡◌, ℕ, ◌+◌, ◌<◌, ◌≤◌, List, [], ◌∷◌, ◌++◌, length, refl, sym, ◌∙◌, inl, inr, arith, length-append}
+use Rattle.std.proofs.Common.{Some, None, Ok, Err, ◌≡◌, ℕ, ◌+◌, ◌<◌, ◌≤◌, List, [], ◌∷◌, ◌++◌, length, take, Result, Option, refl, sym, ◌∙◌, inl, inr, arith, length-append, length-take}
+use Rattle.std.proofs.lemmas.List.{take_all}
 use Rattle.call_tape.specs.declared.calls.Call.{Call}
+use Rattle.call_tape.specs.declared.calls.Call.TheVariants.{Write, Drop, Spoil, Read, Trim, Open, Append, Close, Tally}
 use Rattle.call_tape.specs.Written.{encoded, written}
 use Rattle.tape_text.specs.declared.complaints.Complaint.{Complaint}
 use Rattle.tape_text.specs.Numbers.{Numbers, FirstBad, Complains, count, number}
-use Rattle.tape_text.specs.Calls.{tops_of, values_of, Says, Wrong, unknown, numbers, OneMeaning}
+use Rattle.tape_text.specs.Calls.{tops_of, values_of, Says, Wrong, unknown, numbers, LineMeans, OneMeaning}
 use Rattle.tape_text.specs.Lines.{words, LinesSay, end, blank, call}
 use Rattle.tape_text.specs.Taken.{Barred, wrong, full}
 use Rattle.call_tape.proofs.Writing.{length_written_append}
 use Rattle.tape_text.proofs.Once.{alike, says_once}
 
-numbers_length : (tops : List ℕ) (ws : List (List ℕ)) (ns : List ℕ) → Numbers tops ws ns → length ws ≡ length tops
+pub numbers_length : (tops : List ℕ) (ws : List (List ℕ)) (ns : List ℕ) → Numbers tops ws ns → length ws ≡ length tops
 numbers_length [] [] [] h = refl
 numbers_length (top ∷ tops) (w ∷ ws) (n ∷ ns) h = omega (arith, numbers_length tops ws ns h.1)
 numbers_length _ _ _ h = absurd h
@@ -73,6 +75,38 @@ one_meaning ws (Ok (Some c)) (Err f) h k = absurd (said_not_wrong ws c f h k)
 one_meaning ws (Err e) (Ok None) h k = absurd (nothing_wrong e (rw k at h))
 one_meaning ws (Err e) (Ok (Some d)) h k = absurd (said_not_wrong ws d e k h)
 one_meaning ws (Err e) (Err f) h k = let g = wrong_once ws e f h k in cc
+
+-- no call has more than five numbers, so seven words tell what all mean
+few_numbers : (c : Call) → length (tops_of c) ≤ 5
+few_numbers (Write n) = omega arith
+few_numbers (Drop n) = omega arith
+few_numbers (Spoil n) = omega arith
+few_numbers (Read n) = omega arith
+few_numbers (Trim n) = omega arith
+few_numbers (Open o) = omega arith
+few_numbers (Append l) = omega arith
+few_numbers (Close l) = omega arith
+few_numbers Tally = omega arith
+
+all_six : (ws : List (List ℕ)) → length (take 6 ws) ≤ 5 → take 6 ws ≡ ws
+all_six ws h = take_all 6 ws (omega (arith, h, length-take 6 ws))
+
+complains_of_all : (tops : List ℕ) (ws : List (List ℕ)) (e : Complaint) → length tops ≤ 5 → Complains tops (take 6 ws) e → Complains tops ws e
+complains_of_all tops ws _ few (count n) = count (λ z. n (omega (arith, z, few, length-take 6 ws)))
+complains_of_all tops ws _ few (number j t l b) = rw (all_six ws (omega (arith, l, few))) at (number j t l b)
+
+wrong_by_first : (vs ws : List (List ℕ)) (w : List ℕ) (e : Complaint) → vs ≡ w ∷ take 6 ws → Wrong vs e → Wrong (w ∷ ws) e
+wrong_by_first _ ws w _ same (unknown v vs u) = let is : v ≡ w = cc in unknown w ws (λ c z. u c (is ∙ z))
+wrong_by_first _ ws w _ same (numbers c v vs e k bad) =
+    let is : v ≡ w = cc in
+    let rest : vs ≡ take 6 ws = cc in
+    numbers c w ws e (sym is ∙ k) (complains_of_all (tops_of c) ws e (few_numbers c) (rw rest at bad))
+
+pub means_by_first : (ws : List (List ℕ)) (r : Result (Option Call) Complaint) → LineMeans (take 7 ws) r → LineMeans ws r
+means_by_first [] r h = h
+means_by_first (w ∷ ws) (Ok None) h = absurd cc
+means_by_first (w ∷ ws) (Ok (Some c)) h = (h.0, rw (all_six ws (omega (arith, numbers_length (tops_of c) (take 6 ws) (values_of c) h.1, few_numbers c))) at h.1)
+means_by_first (w ∷ ws) (Err e) h = wrong_by_first (w ∷ take 6 ws) ws w e refl h
 
 -- a line that says a call, or nothing, where all fits
 not_barred : (n : ℕ) (cs ds : List Call) (L : List ℕ) (ls : List (List ℕ)) (e : Complaint) → LinesSay (L ∷ ls) ds → length (written (cs ++ ds)) ≤ n → Barred n cs L e → ⊥

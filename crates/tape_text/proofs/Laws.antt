@@ -12,7 +12,6 @@ use Rattle.call_tape.specs.Soundness.{Sound}
 use Rattle.call_tape.specs.Written.{written, AllSmall}
 use Rattle.call_tape.specs.Writing.{room, Holds}
 use Rattle.tape_text.specs.declared.complaints.LineFault.{LineFault}
-use Rattle.tape_text.specs.declared.complaints.Unread.TheVariants.{OutOfMemory, Line}
 use Rattle.tape_text.specs.Calls.{word_of, tops_of, values_of, spaced, call_text}
 use Rattle.tape_text.specs.Lines.{LinesSay, said}
 use Rattle.tape_text.specs.Taken.{NoText, FirstBarred, OneTaping, GivesBack}
@@ -71,19 +70,15 @@ held_roomy A B n cs hold = rw hold.1 at hold.2
 pub one_taping : OneTaping
 one_taping text A B C (Ok m) (Ok n) h k =
     let same = one_saying (lines text) h.calls k.calls h.say k.say in
-    (h.holds.1 ∙ (ap (λ z. length (written z)) same ∙ sym k.holds.1), one_area A B C m n h.calls k.calls h.holds k.holds same)
-one_taping text A B C (Ok m) (Err OutOfMemory) h k = refl
-one_taping text A B C (Ok m) (Err (Line f)) h (inl k) = absurd (no_text text f k.0 h.utf8)
-one_taping text A B C (Ok m) (Err (Line f)) h (inr (_, k)) = absurd (none_barred_first text A C h.calls f h.say (held_roomy A B m h.calls h.holds) k)
-one_taping text A B C (Err OutOfMemory) (Ok n) h k = refl
-one_taping text A B C (Err (Line f)) (Ok n) (inl h) k = absurd (no_text text f h.0 k.utf8)
-one_taping text A B C (Err (Line f)) (Ok n) (inr (_, h)) k = absurd (none_barred_first text A B k.calls f k.say (held_roomy A C n k.calls k.holds) h)
-one_taping text A B C (Err OutOfMemory) (Err e) h k = inl refl
-one_taping text A B C (Err (Line f)) (Err OutOfMemory) h k = inr (inl refl)
-one_taping text A B C (Err (Line f)) (Err (Line g)) (inl h) (inl k) = inr (inr (ap Line (one_no_text text f g h.0 k.0), h.1 ∙ sym k.1))
-one_taping text A B C (Err (Line f)) (Err (Line g)) (inl h) (inr (t, k)) = absurd (no_text text f h.0 t)
-one_taping text A B C (Err (Line f)) (Err (Line g)) (inr (t, h)) (inl k) = absurd (no_text text g k.0 t)
-one_taping text A B C (Err (Line f)) (Err (Line g)) (inr (_, h)) (inr (_, k)) = let o = one_fault text A B C f g h k in inr (inr (ap Line o.0, o.1))
+    (ap (λ z. Ok z) (h.holds.1 ∙ (ap (λ z. length (written z)) same ∙ sym k.holds.1)), one_area A B C m n h.calls k.calls h.holds k.holds same)
+one_taping text A B C (Ok m) (Err f) h (inl k) = absurd (no_text text f k.0 h.utf8)
+one_taping text A B C (Ok m) (Err f) h (inr (_, k)) = absurd (none_barred_first text A C h.calls f h.say (held_roomy A B m h.calls h.holds) k)
+one_taping text A B C (Err f) (Ok n) (inl h) k = absurd (no_text text f h.0 k.utf8)
+one_taping text A B C (Err f) (Ok n) (inr (_, h)) k = absurd (none_barred_first text A B k.calls f k.say (held_roomy A C n k.calls k.holds) h)
+one_taping text A B C (Err f) (Err g) (inl h) (inl k) = (ap (λ z. Err z) (one_no_text text f g h.0 k.0), h.1 ∙ sym k.1)
+one_taping text A B C (Err f) (Err g) (inl h) (inr (t, k)) = absurd (no_text text f h.0 t)
+one_taping text A B C (Err f) (Err g) (inr (t, h)) (inl k) = absurd (no_text text g k.0 t)
+one_taping text A B C (Err f) (Err g) (inr (_, h)) (inr (_, k)) = let o = one_fault text A B C f g h k in (ap (λ z. Err z) o.0, o.1)
 
 -- what is said is ASCII
 ascii_cons : (x : ℕ) (xs : List ℕ) → x < 128 → IsAscii xs → IsAscii (x ∷ xs)
@@ -123,7 +118,7 @@ ascii_said (c ∷ cs) h =
 pub gives_back : GivesBack
 gives_back T A B cs (Ok n) sound fit k =
     let same : k.calls ≡ cs = one_saying (lines (said cs)) k.calls cs k.say (said_reads cs sound.1) in
-    rw (k.holds.3, k.holds.1) (take-append_seam (written k.calls) _ ∙ (ap written same ∙ sym sound.2))
-gives_back T A B cs (Err OutOfMemory) sound fit k = refl
-gives_back T A B cs (Err (Line f)) sound fit (inl k) = absurd (no_text (said cs) f k.0 (IsUtf8-from_ascii (said cs) (ascii_said cs sound.1)))
-gives_back T A B cs (Err (Line f)) sound fit (inr (_, k)) = absurd (none_barred_first (said cs) A B cs f (said_reads cs sound.1) (roomy T A cs sound fit) k)
+    let long : n ≡ length T = k.holds.1 ∙ (ap (λ z. length (written z)) same ∙ sym (ap length sound.2)) in
+    (ap (λ z. Ok z) long, rw (← long, k.holds.3, k.holds.1) (take-append_seam (written k.calls) _ ∙ (ap written same ∙ sym sound.2)))
+gives_back T A B cs (Err f) sound fit (inl k) = absurd (no_text (said cs) f k.0 (IsUtf8-from_ascii (said cs) (ascii_said cs sound.1)))
+gives_back T A B cs (Err f) sound fit (inr (_, k)) = absurd (none_barred_first (said cs) A B cs f (said_reads cs sound.1) (roomy T A cs sound fit) k)

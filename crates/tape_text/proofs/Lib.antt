@@ -2,6 +2,7 @@
 pub mod Reading
 pub mod Text
 pub mod Sayings
+pub mod Firsts
 pub mod Adding
 pub mod Taking
 pub mod Once

@@ -8,8 +8,7 @@ use Rattle.std.proofs.lemmas.Result.{err_from_is_err_and}
 use Rattle.call_tape.specs.declared.calls.Call.{Call}
 use Rattle.call_tape.specs.Written.{written}
 use Rattle.call_tape.specs.Writing.{Holds}
-use Rattle.tape_text.specs.declared.complaints.Unread.{Unread}
-use Rattle.tape_text.specs.declared.complaints.Unread.TheVariants.{OutOfMemory, Line}
+use Rattle.tape_text.specs.declared.complaints.LineFault.{LineFault}
 use Rattle.tape_text.specs.Lines.{LinesSay}
 use Rattle.tape_text.specs.Taken.{LineAdded, Taped}
 use Rattle.tape_text.proofs.Sayings.{one_blank_more, one_call_more}
@@ -56,17 +55,16 @@ one_more ps x i Z A B u v (cs, say, hold) (inl (w, k)) = (cs, rw (map-append (λ
 one_more ps x i Z A B u v (cs, say, hold) (inr (c, w, k)) = (cs ++ c ∷ [], rw (map-append (λ (p : Numbered). p.1.now) ps (x ∷ [])) (one_call_more (texts_in ps) cs x.1.now c say w), k)
 
 -- what the exit of a `?` returns
-pub taped_exit : (text A B : List ℕ) (r : Result ℕ Unread) (e : Unread) → IsErrAnd r (λ y. y ≡ e) → Taped text A (Err e) B → Taped text A r B
-taped_exit text A B r e h k = let p = err_from_is_err_and r h in rw (p.1, p.2) k
+pub taped_exit : (text A B : List ℕ) (r : Result ℕ LineFault) (f : LineFault) → IsErrAnd r (λ y. y ≡ f) → Taped text A (Err f) B → Taped text A r B
+taped_exit text A B r f h k = let p = err_from_is_err_and r h in rw (p.1, p.2) k
 
 held_whole : (Z B : List ℕ) (u : ℕ) (cs : List Call) → Holds Z B u cs → Holds Z B (length (written cs)) cs
 held_whole Z B u cs hold = rw hold.1 at hold
 
 -- the line that is not added
-pub barred_line : (text : List ℕ) (ps : List Numbered) (x : Numbered) (Z A B : List ℕ) (u v : ℕ) (e : Unread) → IsUtf8 text → (h : SaidSoFar ps Z A u)
-    → (after : List (List ℕ)) × (lines text ≡ texts_in ps ++ x.1.now ∷ after) × (x.0 ≡ 0 + length ps) → LineAdded x.1.now (x.0 + 1) Z h.0 (Err e) B v → Taped text Z (Err e) B
-barred_line text ps x Z A B u v OutOfMemory t (cs, say, hold) (after, is, at) added = (texts_in ps, x.1.now ∷ after, cs, is, say, held_whole Z B v cs added)
-barred_line text ps x Z A B u v (Line f) t (cs, say, hold) (after, is, at) (number, barred, held) =
+pub barred_line : (text : List ℕ) (ps : List Numbered) (x : Numbered) (Z A B : List ℕ) (u v : ℕ) (f : LineFault) → IsUtf8 text → (h : SaidSoFar ps Z A u)
+    → (after : List (List ℕ)) × (lines text ≡ texts_in ps ++ x.1.now ∷ after) × (x.0 ≡ 0 + length ps) → LineAdded x.1.now (x.0 + 1) Z h.0 (Err f) B v → Taped text Z (Err f) B
+barred_line text ps x Z A B u v f t (cs, say, hold) (after, is, at) (number, barred, held) =
     inr (t, (texts_in ps, x.1.now, after, cs, is, simp length-map (omega arith), say, held_whole Z B v cs held, barred))
 
 -- every line is added
@@ -78,5 +76,5 @@ whole_text text ps Z A u n t (cs, say, hold) seen is = record { utf8 = t; calls 
 pub fresh : (Z A : List ℕ) (u : ℕ) → Holds Z A u [] → A ≡ Z
 fresh Z A u h = h.3 ∙ ap (λ k. drop k Z) h.1
 
-pub left_as : (text Z Y A B : List ℕ) (r : Result ℕ Unread) → Y ≡ Z → B ≡ A → Taped text Y r A → Taped text Z r B
+pub left_as : (text Z Y A B : List ℕ) (r : Result ℕ LineFault) → Y ≡ Z → B ≡ A → Taped text Y r A → Taped text Z r B
 left_as text Z Y A B r y b h = rw (← y, b) h

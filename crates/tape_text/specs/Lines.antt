@@ -1,27 +1,19 @@
 -- Lines of a text, and the calls that they say.
 --   words L          the words of the line L: what stands between blanks
---   LineRead L i r   r is what the line L means; a complaint carries its number, i
 --   LinesSay ls cs   the lines ls say the calls cs, in order
 --   said cs          the text of the calls cs, a line for each
 --   OneSaying        lines say one list of calls at most
 --   SaidReads        the lines of the text of calls say those calls
 -- Assumes nothing.
-use Rattle.std.specs.Prelude.{◌≡◌, ℕ, ◌==◌, List, [], ◌∷◌, ◌++◌, length, not, filter, Option, Ok, Err, Result}
+use Rattle.std.specs.Prelude.{◌≡◌, ℕ, ◌==◌, List, [], ◌∷◌, ◌++◌, length, not, filter}
 use Rattle.std.specs.List.{slice_split}
 use Rattle.std.specs.Str.Lines.{lines}
 use Rattle.call_tape.specs.declared.calls.Call.{Call}
 use Rattle.call_tape.specs.Written.{AllSmall}
-use Rattle.tape_text.specs.declared.complaints.Unread.{Unread}
-use Rattle.tape_text.specs.declared.complaints.Unread.TheVariants.{OutOfMemory, Line}
-use Rattle.tape_text.specs.Calls.{Says, Wrong, LineMeans, call_text}
+use Rattle.tape_text.specs.Calls.{Says, call_text}
 
 abbrev pub words : List ℕ → List (List ℕ)
 words L = filter (λ w. not (length w == 0)) (slice_split (λ b. b == 32) L)
-
-abbrev pub LineRead : List ℕ → ℕ → Result (Option Call) Unread → Type 0
-LineRead L i (Ok o) = LineMeans (words L) (Ok o)
-LineRead L i (Err (Line f)) = (f.line ≡ i) × Wrong (words L) f.complaint
-LineRead L i (Err OutOfMemory) = Unit {0}
 
 -- no line; a line that says nothing; a line that says a call
 pub data LinesSay : List (List ℕ) → List Call → Type 0 where

@@ -3,15 +3,13 @@
 --   Barred n cs L e     the line L cannot be added behind the calls cs in a room of n bytes, and e is why
 --   LineAdded L i Z cs r B u   the line L, of the number i, is added behind the calls cs in the area Z: the answer is r, the area is then B, with a tape of u bytes
 --   FirstBarred text A B f   the line of f is the first that is barred from the area A, which is left as B
---   Stopped text A B    some first lines of the text are a tape in the area A, which is left as B
 --   AllTaped text A n B   the lines of the text are a tape of n bytes in the area A, which is left as B
 --   Taped text A r B    r is the length of the tape of the text in the area A, or why there is none, and A is left as B
---   Agree r B s C       r and s, with the areas B and C, are one tape, or one fault, as far as memory lasts
 --   OneTaping           a text gives one tape or one fault, and leaves one area
 --   Worded T r          r is the text of the tape T, or all its faults
 --   GivesBack           the text of a sound tape's calls gives that tape, where the area has room for it
 -- Assumes nothing.
-use Rattle.std.specs.Prelude.{◌≡◌, ℕ, ◌+◌, ◌<◌, ◌≤◌, ◌⊎◌, List, [], ◌∷◌, ◌++◌, length, take, Ok, Err, Result, MatchResult, ⊤, Vec, String, string_bytes}
+use Rattle.std.specs.Prelude.{◌≡◌, ℕ, ◌+◌, ◌<◌, ◌≤◌, ◌⊎◌, List, [], ◌∷◌, ◌++◌, length, take, Ok, Err, Result, ⊤, Vec, String, string_bytes}
 use Rattle.std.specs.Str.{IsUtf8}
 use Rattle.std.specs.Str.Lines.{lines}
 use Rattle.utf8.specs.Lines.{line_of_fault}
@@ -23,8 +21,6 @@ use Rattle.call_tape.specs.Writing.{room, Holds}
 use Rattle.tape_text.specs.declared.complaints.Complaint.{Complaint}
 use Rattle.tape_text.specs.declared.complaints.Complaint.TheVariants.{NotText, NoRoom}
 use Rattle.tape_text.specs.declared.complaints.LineFault.{LineFault}
-use Rattle.tape_text.specs.declared.complaints.Unread.{Unread}
-use Rattle.tape_text.specs.declared.complaints.Unread.TheVariants.{OutOfMemory, Line}
 use Rattle.tape_text.specs.Calls.{Says, Wrong}
 use Rattle.tape_text.specs.Lines.{words, LinesSay, said}
 
@@ -36,20 +32,15 @@ pub data Barred (n : ℕ) (cs : List Call) (L : List ℕ) : Complaint → Type 0
   wrong : (e : Complaint) → Wrong (words L) e → Barred n cs L e
   full : (c : Call) → Says (words L) c → n < length (written (cs ++ c ∷ [])) → Barred n cs L NoRoom
 
-abbrev pub LineAdded : List ℕ → ℕ → List ℕ → List Call → Result ⊤ Unread → List ℕ → ℕ → Type 0
+abbrev pub LineAdded : List ℕ → ℕ → List ℕ → List Call → Result ⊤ LineFault → List ℕ → ℕ → Type 0
 LineAdded L i Z cs (Ok _) B u = ((words L ≡ []) × Holds Z B u cs) ⊎ ((c : Call) × Says (words L) c × Holds Z B u (cs ++ c ∷ []))
-LineAdded L i Z cs (Err (Line f)) B u = (f.line ≡ i) × Barred (room Z) cs L f.complaint × Holds Z B u cs
-LineAdded L i Z cs (Err OutOfMemory) B u = Holds Z B u cs
+LineAdded L i Z cs (Err f) B u = (f.line ≡ i) × Barred (room Z) cs L f.complaint × Holds Z B u cs
 
 -- the lines before it stand as a tape
 abbrev pub FirstBarred : List ℕ → List ℕ → List ℕ → LineFault → Type 0
 FirstBarred text A B f = (before : List (List ℕ)) × (L : List ℕ) × (after : List (List ℕ)) × (cs : List Call)
     × (lines text ≡ before ++ L ∷ after) × (f.line ≡ length before + 1)
     × LinesSay before cs × Holds A B (length (written cs)) cs × Barred (room A) cs L f.complaint
-
-abbrev pub Stopped : List ℕ → List ℕ → List ℕ → Type 0
-Stopped text A B = (before : List (List ℕ)) × (after : List (List ℕ)) × (cs : List Call)
-    × (lines text ≡ before ++ after) × LinesSay before cs × Holds A B (length (written cs)) cs
 
 -- every line is taken
 pub record AllTaped (text A : List ℕ) (n : ℕ) (B : List ℕ) : Type 0 where
@@ -58,19 +49,12 @@ pub record AllTaped (text A : List ℕ) (n : ℕ) (B : List ℕ) : Type 0 where
   pub say : LinesSay (lines text) calls
   pub holds : Holds A B n calls
 
-abbrev pub Taped : List ℕ → List ℕ → Result ℕ Unread → List ℕ → Type 0
+abbrev pub Taped : List ℕ → List ℕ → Result ℕ LineFault → List ℕ → Type 0
 Taped text A (Ok n) B = AllTaped text A n B
-Taped text A (Err (Line f)) B = (NoText text f × (B ≡ A)) ⊎ (IsUtf8 text × FirstBarred text A B f)
-Taped text A (Err OutOfMemory) B = Stopped text A B
-
-abbrev pub Agree : Result ℕ Unread → List ℕ → Result ℕ Unread → List ℕ → Type 0
-Agree (Ok m) B (Ok n) C = (m ≡ n) × (B ≡ C)
-Agree (Ok m) B (Err e) C = e ≡ OutOfMemory
-Agree (Err e) B (Ok n) C = e ≡ OutOfMemory
-Agree (Err e) B (Err f) C = (e ≡ OutOfMemory) ⊎ ((f ≡ OutOfMemory) ⊎ ((e ≡ f) × (B ≡ C)))
+Taped text A (Err f) B = (NoText text f × (B ≡ A)) ⊎ (IsUtf8 text × FirstBarred text A B f)
 
 abbrev pub OneTaping : Type 0
-OneTaping = (text A B C : List ℕ) (r s : Result ℕ Unread) → Taped text A r B → Taped text A s C → Agree r B s C
+OneTaping = (text A B C : List ℕ) (r s : Result ℕ LineFault) → Taped text A r B → Taped text A s C → (r ≡ s) × (B ≡ C)
 
 -- the text of its calls; or its faults, of which the first is named
 abbrev pub Worded : {A : Type 0} → List ℕ → Result (String A) (Vec Fault A) → Type 0
@@ -78,4 +62,4 @@ Worded T (Ok s) = (cs : List Call) × Sound T cs × (string_bytes s ≡ said cs)
 Worded T (Err v) = Unsound T v.items
 
 abbrev pub GivesBack : Type 0
-GivesBack = (T A B : List ℕ) (cs : List Call) (r : Result ℕ Unread) → Sound T cs → length T ≤ length A → Taped (said cs) A r B → MatchResult r (λ n. take n B ≡ T) (λ e. e ≡ OutOfMemory)
+GivesBack = (T A B : List ℕ) (cs : List Call) (r : Result ℕ LineFault) → Sound T cs → length T ≤ length A → Taped (said cs) A r B → (r ≡ Ok (length T)) × (take (length T) B ≡ T)

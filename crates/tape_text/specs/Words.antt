@@ -1,14 +1,11 @@
 -- What is wrong with a text, in words.
 --   complaint_text e   what is wrong with a line
 --   line_fault_text f  the number of the line, and what is wrong with it
---   unread_text e      why a text was not read
 -- Assumes nothing.
 use Rattle.std.specs.Prelude.{ℕ, List, ◌++◌, cond, ◌==◌, codes, decimal}
 use Rattle.tape_text.specs.declared.complaints.Complaint.{Complaint}
 use Rattle.tape_text.specs.declared.complaints.Complaint.TheVariants.{NotText, UnknownWord, WrongCount, BadNumber, NoRoom}
 use Rattle.tape_text.specs.declared.complaints.LineFault.{LineFault}
-use Rattle.tape_text.specs.declared.complaints.Unread.{Unread}
-use Rattle.tape_text.specs.declared.complaints.Unread.TheVariants.{OutOfMemory, Line}
 
 abbrev pub complaint_text : Complaint → List ℕ
 complaint_text NotText = codes "the line is not UTF-8"
@@ -19,7 +16,3 @@ complaint_text NoRoom = codes "the tape has no room for this call (refusal 17)"
 
 abbrev pub line_fault_text : LineFault → List ℕ
 line_fault_text f = codes "line " ++ (decimal f.line ++ (codes ": " ++ complaint_text f.complaint))
-
-abbrev pub unread_text : Unread → List ℕ
-unread_text OutOfMemory = codes "out of memory"
-unread_text (Line f) = line_fault_text f

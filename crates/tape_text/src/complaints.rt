@@ -1,8 +1,7 @@
 // What is wrong with a text from which no tape can be made, and on which line.
-ghost use Rattle.std.specs.Prelude.{◌≡◌, Some};
-ghost use Rattle.tape_text.specs.Words.{complaint_text, line_fault_text, unread_text};
+ghost use Rattle.std.specs.Prelude.{Some};
+ghost use Rattle.tape_text.specs.Words.{complaint_text, line_fault_text};
 
-use std::alloc::AllocError;
 use std::error::Error;
 use std::fmt;
 use std::fmt::{Display, Formatter};
@@ -24,33 +23,6 @@ pub enum Complaint {
 pub struct LineFault {
     pub line: usize,
     pub complaint: Complaint,
-}
-
-// Why a text was not read.
-#[derive(Clone, Copy, PartialEq, Eq, Debug)]
-pub enum Unread {
-    OutOfMemory,
-    Line(LineFault),
-}
-
-impl From<AllocError> for Unread {
-    ghost use Rattle.tape_text.specs.declared.complaints.Unread.TheVariants.{OutOfMemory};
-
-    ghost from_gives = { λ _ unread. unread ≡ OutOfMemory };
-
-    fn from(_error: AllocError) -> Unread {
-        Unread::OutOfMemory
-    }
-}
-
-impl From<LineFault> for Unread {
-    ghost use Rattle.tape_text.specs.declared.complaints.Unread.TheVariants.{Line};
-
-    ghost from_gives = { λ fault unread. unread ≡ Line fault };
-
-    fn from(fault: LineFault) -> Unread {
-        Unread::Line(fault)
-    }
 }
 
 impl Display for Complaint {
@@ -83,15 +55,4 @@ impl Display for LineFault {
     }
 }
 
-impl Display for Unread {
-    ghost output = { λ e. Some (unread_text e) };
-
-    fn fmt<W: fmt::Write>(&self, f: &mut Formatter<W>) -> fmt::Result {
-        match self {
-            Unread::OutOfMemory => write!(f, "out of memory"),
-            Unread::Line(fault) => write!(f, "{fault}"),
-        }
-    }
-}
-
-impl Error for Unread {}
+impl Error for LineFault {}

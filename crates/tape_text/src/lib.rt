@@ -6,6 +6,6 @@ mod lines;
 mod numbers;
 mod whole;
 
-pub use complaints::{Complaint, LineFault, Unread};
+pub use complaints::{Complaint, LineFault};
 pub use lines::{CallText, call_in};
 pub use whole::{tape_of, text_of, text_of_tape};

@@ -1,16 +1,18 @@
 // A line of the text, as the call that it says.
-ghost use Rattle.std.specs.Prelude.{[], ◌∷◌, Some, MatchResult};
+ghost use Rattle.std.specs.Prelude.{[], ◌∷◌, Some, MatchResult, ◌≡◌, ◌≤◌, take};
 ghost use Rattle.tape_text.specs.Numbers.{texts, ReadsAll};
 ghost use Rattle.tape_text.specs.Calls.{number_tops, label_tops, opening_tops, label_values, opening_values, call_text, Says, Wrong, LineMeans, OneMeaning};
-ghost use Rattle.tape_text.specs.Lines.{words, LineRead};
+ghost use Rattle.tape_text.specs.Lines.{words};
 
-use crate::complaints::{Complaint, LineFault, Unread};
+use crate::complaints::Complaint;
 use crate::numbers::{u8_in, u16_in, u32_in};
 use call_tape::{Call, Opening};
 use label::StreamLabel;
-use std::alloc::Global;
 use std::fmt;
 use std::fmt::{Display, Formatter};
+
+// No line needs more words to be judged than those of an opening, and one.
+const MOST_WORDS: usize = 7;
 
 // A call as the text of its line.
 #[derive(Clone, Copy, PartialEq, Eq, Debug)]
@@ -120,20 +122,26 @@ fn call_of(words: &[&str]) -> Result<Option<Call>, Complaint>
     }
 }
 
-// The call that the line of this number says; the words of a line are what stands between blanks.
-pub fn call_in(number: usize, line: &str, heap: Global) -> Result<Option<Call>, Unread>
-    ensures read { LineRead line.now number result }
+// The first words of a line, and how many they are.
+fn first_words(line: &str) -> ([&str; MOST_WORDS], usize)
+    ensures { (result.1 ≤ 7) × (texts (take result.1 result.0) ≡ take 7 (words line.now)) }
+{
+    let mut words = [""; MOST_WORDS];
+    let mut count = 0;
+    for word in line.split(' ') {
+        if !word.is_empty() && count < MOST_WORDS {
+            words[count] = word;
+            count += 1;
+        }
+    }
+    (words, count)
+}
+
+// The call that a line says; its words are what stands between blanks.
+pub fn call_in(line: &str) -> Result<Option<Call>, Complaint>
+    ensures means { LineMeans (words line.now) result }
     ensures once { OneMeaning }
 {
-    let words: Vec<&str> = line
-        .split(' ')
-        .filter(|word| !word.is_empty())
-        .collect(heap)?;
-    match call_of(&words) {
-        Ok(call) => Ok(call),
-        Err(complaint) => Err(Unread::Line(LineFault {
-            line: number,
-            complaint,
-        })),
-    }
+    let (words, count) = first_words(line);
+    call_of(&words[..count])
 }

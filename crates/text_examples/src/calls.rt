@@ -22,7 +22,7 @@ fn both_ways(rt: &HostRuntime, line: &str, call: Call, field: &[u8]) -> Result<(
     let text = text_of(&[call], rt.alloc())?;
     check_eq(text.as_str(), line)?;
     let mut area = [0; 16];
-    let count = tape_of(line.as_bytes(), &mut area, rt.alloc())?;
+    let count = tape_of(line.as_bytes(), &mut area)?;
     check_eq(area.get(..count), Some(field))
 }
 

@@ -6,33 +6,33 @@ use std::test::*;
 use tape_text::{tape_of, text_of_tape};
 
 // The text gives the tape of `read 1`, `tally` and `drop 2`.
-fn three_calls(rt: &HostRuntime, text: &str) -> Result<(), Fail> {
+fn three_calls(text: &str) -> Result<(), Fail> {
     let mut area = [0; 64];
-    let count = tape_of(text.as_bytes(), &mut area, rt.alloc())?;
+    let count = tape_of(text.as_bytes(), &mut area)?;
     let wanted = [4, 0, 4, 0, 0, 0, 1, 9, 0, 0, 2, 0, 4, 0, 0, 0, 2];
     check_eq(area.get(..count), Some(wanted.as_slice()))
 }
 
 #[test]
-fn blanks_and_ends_of_lines(rt: HostRuntime) -> Result<(), Fail> {
-    three_calls(&rt, "read 1\ntally\ndrop 2\n")?;
-    three_calls(&rt, "read 1\ntally\ndrop 2")?;
-    three_calls(&rt, "read 1\r\ntally\r\ndrop 2\r\n")?;
-    three_calls(&rt, "\n\nread 1\n   \n\r\ntally\n\ndrop 2\n\n")?;
-    three_calls(&rt, "  read   1  \n tally \ndrop  2 ")
+fn blanks_and_ends_of_lines() -> Result<(), Fail> {
+    three_calls("read 1\ntally\ndrop 2\n")?;
+    three_calls("read 1\ntally\ndrop 2")?;
+    three_calls("read 1\r\ntally\r\ndrop 2\r\n")?;
+    three_calls("\n\nread 1\n   \n\r\ntally\n\ndrop 2\n\n")?;
+    three_calls("  read   1  \n tally \ndrop  2 ")
 }
 
 #[test]
-fn zeros_and_a_plus_before_a_number(rt: HostRuntime) -> Result<(), Fail> {
-    three_calls(&rt, "read 0001\ntally\ndrop +2")?;
-    three_calls(&rt, "read +1\ntally\ndrop +000000000000002")
+fn zeros_and_a_plus_before_a_number() -> Result<(), Fail> {
+    three_calls("read 0001\ntally\ndrop +2")?;
+    three_calls("read +1\ntally\ndrop +000000000000002")
 }
 
 #[test]
 fn a_text_that_says_nothing(rt: HostRuntime) -> Result<(), Fail> {
     let mut area = [7; 2];
     for text in ["", "\n", "   ", "\r\n \n"] {
-        check_eq(tape_of(text.as_bytes(), &mut area, rt.alloc())?, 0)?;
+        check_eq(tape_of(text.as_bytes(), &mut area)?, 0)?;
     }
     check_eq(area, [7; 2])
 }
@@ -61,7 +61,7 @@ fn a_tape_with_faults_has_no_text(rt: HostRuntime) -> Result<(), Fail> {
 fn from_text_to_tape_to_text(rt: HostRuntime) -> Result<(), Fail> {
     let text = " open 1 2 3 4 5\r\n\nappend 1 2 3\nwrite +07\n\ntally\nclose 1 2 3";
     let mut area = [0; 64];
-    let count = tape_of(text.as_bytes(), &mut area, rt.alloc())?;
+    let count = tape_of(text.as_bytes(), &mut area)?;
     let tape = area.get(..count).ok_or("no tape")?;
     check_eq(
         sound_text(&rt, tape)?.as_str(),
@@ -77,6 +77,6 @@ fn from_tape_to_text_to_tape(rt: HostRuntime) -> Result<(), Fail> {
     ];
     let text = sound_text(&rt, &tape)?;
     let mut area = [0; 64];
-    let count = tape_of(text.as_bytes(), &mut area, rt.alloc())?;
+    let count = tape_of(text.as_bytes(), &mut area)?;
     check_eq(area.get(..count), Some(tape.as_slice()))
 }

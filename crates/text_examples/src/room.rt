@@ -2,33 +2,33 @@
 use checks::{check, check_eq};
 use std::alloc::{AllocError, Global};
 use std::test::*;
-use tape_text::{Complaint, LineFault, Unread, tape_of};
+use tape_text::{Complaint, LineFault, tape_of};
 
-fn no_room(line: usize) -> Option<Unread> {
+fn no_room(line: usize) -> Option<LineFault> {
     let complaint = Complaint::NoRoom;
-    Some(Unread::Line(LineFault { line, complaint }))
+    Some(LineFault { line, complaint })
 }
 
 #[test]
-fn an_area_that_is_filled(rt: HostRuntime) -> Result<(), Fail> {
+fn an_area_that_is_filled() -> Result<(), Fail> {
     let text = b"tally\nwrite 1\n";
     let wanted = [9, 0, 0, 1, 0, 4, 0, 0, 0, 1];
     let mut exact = [0; 10];
-    check_eq(tape_of(text, &mut exact, rt.alloc())?, 10)?;
+    check_eq(tape_of(text, &mut exact)?, 10)?;
     check_eq(exact, wanted)
 }
 
 #[test]
-fn an_area_one_byte_short(rt: HostRuntime) -> Result<(), Fail> {
+fn an_area_one_byte_short() -> Result<(), Fail> {
     let text = b"tally\n\nwrite 1\nwrote 1\n";
     let mut short = [7; 9];
-    check_eq(tape_of(text, &mut short, rt.alloc()).err(), no_room(3))?;
+    check_eq(tape_of(text, &mut short).err(), no_room(3))?;
     check_eq(short, [9, 0, 0, 7, 7, 7, 7, 7, 7])?;
     let mut kept = [7; 9];
-    check(tape_of(b"\xFF", &mut kept, rt.alloc()).is_err())?;
+    check(tape_of(b"\xFF", &mut kept).is_err())?;
     check_eq(kept, [7; 9])?;
     let mut empty = [0; 0];
-    check_eq(tape_of(text, &mut empty, rt.alloc()).err(), no_room(1))
+    check_eq(tape_of(text, &mut empty).err(), no_room(1))
 }
 
 // The text of this many tallies, whose fields have 3 bytes.
@@ -44,10 +44,7 @@ fn tallies(count: usize, heap: Global) -> Result<String, AllocError> {
 fn the_longest_tape(rt: HostRuntime) -> Result<(), Fail> {
     let mut area = vec![in rt.alloc(); 0u8; 65_600]?;
     let longest = tallies(21_845, rt.alloc())?;
-    check_eq(tape_of(longest.as_bytes(), &mut area, rt.alloc())?, 65_535)?;
+    check_eq(tape_of(longest.as_bytes(), &mut area)?, 65_535)?;
     let longer = tallies(21_846, rt.alloc())?;
-    check_eq(
-        tape_of(longer.as_bytes(), &mut area, rt.alloc()).err(),
-        no_room(21_846),
-    )
+    check_eq(tape_of(longer.as_bytes(), &mut area).err(), no_room(21_846))
 }

@@ -1,11 +1,11 @@
 // The complaints, in words.
 use checks::check_eq;
 use std::test::*;
-use tape_text::{Complaint, LineFault, Unread};
+use tape_text::{Complaint, LineFault};
 
 fn told(rt: &HostRuntime, line: usize, complaint: Complaint, words: &str) -> Result<(), Fail> {
-    let unread = Unread::Line(LineFault { line, complaint });
-    check_eq(format!(in rt.alloc(); "{unread}")?.as_str(), words)
+    let fault = LineFault { line, complaint };
+    check_eq(format!(in rt.alloc(); "{fault}")?.as_str(), words)
 }
 
 #[test]
@@ -49,10 +49,5 @@ fn each_complaint(rt: HostRuntime) -> Result<(), Fail> {
         21_846,
         Complaint::NoRoom,
         "line 21846: the tape has no room for this call (refusal 17)",
-    )?;
-    let unread = Unread::OutOfMemory;
-    check_eq(
-        format!(in rt.alloc(); "{unread}")?.as_str(),
-        "out of memory",
     )
 }
