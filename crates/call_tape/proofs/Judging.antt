@@ -13,10 +13,10 @@ use Rattle.call_tape.specs.Fields.{tag_at, size_at, contents_at, behind, Whole}
 use Rattle.call_tape.specs.Soundness.{Sound, Faulty, cut, FirstFault, long, calls_in, faults_in, WrittenAgain, SoundFaultless}
 use Rattle.call_tape.specs.Soundness as sound
 use Rattle.call_tape.specs.Tapes.{Reads, end, short, field, Tape}
-use Rattle.call_tape.specs.Written.{encoded, written, AllSmall, placed}
+use Rattle.call_tape.specs.Written.{encoded, written, AllSmall, placed, OnlyWritten}
 use Rattle.call_tape.specs.Writing.{Added, Holds}
 use Rattle.call_tape.proofs.Decoding.{decodes}
-use Rattle.call_tape.proofs.OnlyWritten.{Bytes, bytes_part, cut_up, digits}
+use Rattle.call_tape.proofs.Cutting.{Bytes, bytes_part, cut_up, digits}
 use Rattle.call_tape.proofs.Runs.{one_reading}
 use Rattle.call_tape.proofs.Written.{written_reads}
 use Rattle.call_tape.proofs.Writing.{written_more, length_written_append, small_more, held_length}
@@ -84,6 +84,14 @@ module _ (T : List ℕ) (rs : List Reading) (bytes : Bytes T) (h : Tape T rs) (c
 placed_faultless : (p : ℕ) (cs : List Call) → faults_in (placed p cs) ≡ []
 placed_faultless p [] = refl
 placed_faultless p (c ∷ cs) = placed_faultless (p + 3 + length (contents_of c)) cs
+
+calls_placed : (p : ℕ) (cs : List Call) → calls_in (placed p cs) ≡ cs
+calls_placed p [] = refl
+calls_placed p (c ∷ cs) = ap (λ ds. c ∷ ds) (calls_placed (p + 3 + length (contents_of c)) cs)
+
+-- a tape that says calls and no fault is the one that is written from those calls
+pub only_written : OnlyWritten
+only_written T cs bytes says = (judged_sound T (placed 0 cs) bytes says cs [] (sym (calls_placed 0 cs)) (sym (placed_faultless 0 cs)) refl).2
 
 pub sound_faultless : SoundFaultless
 sound_faultless T cs rs (l, small, is) h =

@@ -4,5 +4,5 @@ pub mod Runs
 pub mod Written
 pub mod Writing
 pub mod Sorting
+pub mod Cutting
 pub mod Judging
-pub mod OnlyWritten

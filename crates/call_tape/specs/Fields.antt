@@ -3,6 +3,7 @@
 --   behind T p        the place behind it
 --   Whole T p         all of it stands on the tape
 --   Cut T p           it begins on the tape, and the tape ends inside it
+--   most_bytes        the most bytes of a tape
 --   Opened T r        what opening T answers
 --   First L p r       the bytes L, which stand at the place p, begin with the field r
 --   Taken T p r q     taking the field at p answers r, and goes on at q
@@ -36,10 +37,13 @@ Whole T p = behind T p ≤ length T
 abbrev pub Cut : List ℕ → ℕ → Type 0
 Cut T p = (p < length T) × (length T < behind T p)
 
--- a tape above 65,535 bytes is not opened
+abbrev pub most_bytes : ℕ
+most_bytes = 65535
+
+-- a longer tape is not opened
 abbrev pub Opened : List ℕ → Result Reader Fault → Type 0
-Opened T (Ok r) = (length T ≤ 65535) × (r.tape.now ≡ T) × (r.place ≡ 0)
-Opened T (Err f) = (65535 < length T) × (f ≡ record { place = 0; refusal = TapeTooLong })
+Opened T (Ok r) = (length T ≤ most_bytes) × (r.tape.now ≡ T) × (r.place ≡ 0)
+Opened T (Err f) = (most_bytes < length T) × (f ≡ record { place = 0; refusal = TapeTooLong })
 
 abbrev pub First : List ℕ → ℕ → Option Field → Type 0
 First L p None = length L < behind L 0

@@ -15,13 +15,13 @@ use Rattle.call_tape.specs.declared.calls.Call.{Call}
 use Rattle.call_tape.specs.declared.faults.Fault.{Fault}
 use Rattle.call_tape.specs.declared.fields.Reading.{Reading}
 use Rattle.call_tape.specs.Calls.{tag_of, contents_of}
-use Rattle.call_tape.specs.Fields.{tag_at, size_at, Whole, Cut}
+use Rattle.call_tape.specs.Fields.{tag_at, size_at, Whole, Cut, most_bytes}
 use Rattle.call_tape.specs.Tapes.{Tape}
 use Rattle.call_tape.specs.Written.{encoded, written, AllSmall}
 use Rattle.call_tape.specs.Writing.{Added, Holds}
 
 abbrev pub Sound : List ℕ → List Call → Type 0
-Sound T cs = (length T ≤ 65535) × AllSmall cs × (T ≡ written cs)
+Sound T cs = (length T ≤ most_bytes) × AllSmall cs × (T ≡ written cs)
 
 -- the tape ends inside the field; no call has its tag; the call of its tag has contents of another length
 pub data Faulty (T : List ℕ) (p : ℕ) : Refusal → Type 0 where
@@ -30,8 +30,8 @@ pub data Faulty (T : List ℕ) (p : ℕ) : Refusal → Type 0 where
   wrong : Whole T p → (c : Call) → tag_at T p ≡ tag_of c → (size_at T p ≢ length (contents_of c)) → Faulty T p WrongFieldLength
 
 pub data FirstFault (T : List ℕ) : Fault → Type 0 where
-  long : 65535 < length T → FirstFault T (record { place = 0; refusal = TapeTooLong })
-  field : (cs : List Call) (e : Refusal) → length T ≤ 65535 → AllSmall cs → take (length (written cs)) T ≡ written cs → Faulty T (length (written cs)) e
+  long : most_bytes < length T → FirstFault T (record { place = 0; refusal = TapeTooLong })
+  field : (cs : List Call) (e : Refusal) → length T ≤ most_bytes → AllSmall cs → take (length (written cs)) T ≡ written cs → Faulty T (length (written cs)) e
       → FirstFault T (record { place = length (written cs); refusal = e })
 
 abbrev pub calls_in : List Reading → List Call

@@ -7,7 +7,7 @@ use Rattle.std.specs.Prelude.{◌≡◌, ℕ, ◌<◌, ◌≤◌, ◌⊎◌, Lis
 use Rattle.refusal.specs.declared.Refusal.TheVariants.{FieldCutShort, TapeTooLong}
 use Rattle.call_tape.specs.declared.fields.Reading.{Reading}
 use Rattle.call_tape.specs.Calls.{decoded}
-use Rattle.call_tape.specs.Fields.{tag_at, contents_at, behind, Whole, Cut}
+use Rattle.call_tape.specs.Fields.{tag_at, contents_at, behind, Whole, Cut, most_bytes}
 
 -- nothing is left; a field is cut short, and ends the tape; a whole field, whatever it says, and the fields behind it
 pub data Reads (T : List ℕ) : ℕ → List Reading → Type 0 where
@@ -18,8 +18,8 @@ pub data Reads (T : List ℕ) : ℕ → List Reading → Type 0 where
 -- a tape above 65,535 bytes is one fault, and no field of it is read
 abbrev pub Tape : List ℕ → List Reading → Type 0
 Tape T rs =
-    ((65535 < length T) × (rs ≡ (record { place = 0; outcome = Err TapeTooLong } ∷ [])))
-    ⊎ ((length T ≤ 65535) × Reads T 0 rs)
+    ((most_bytes < length T) × (rs ≡ (record { place = 0; outcome = Err TapeTooLong } ∷ [])))
+    ⊎ ((length T ≤ most_bytes) × Reads T 0 rs)
 
 abbrev pub OneReading : Type 0
 OneReading = (T : List ℕ) (xs ys : List Reading) → Tape T xs → Tape T ys → xs ≡ ys

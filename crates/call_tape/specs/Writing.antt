@@ -8,11 +8,11 @@ use Rattle.std.specs.Prelude.{◌≡◌, ℕ, ◌+◌, ◌<◌, ◌≤◌, List,
 use Rattle.refusal.specs.declared.Refusal.{Refusal}
 use Rattle.refusal.specs.declared.Refusal.TheVariants.{AreaTooShort}
 use Rattle.call_tape.specs.declared.calls.Call.{Call}
+use Rattle.call_tape.specs.Fields.{most_bytes}
 use Rattle.call_tape.specs.Written.{written, AllSmall}
 
--- a tape has 65,535 bytes at most
 abbrev pub room : List ℕ → ℕ
-room A = min (length A) 65535
+room A = min (length A) most_bytes
 
 -- refused exactly where the bytes pass the room, and then every byte and the count are as they were
 abbrev pub Added : List ℕ → ℕ → List ℕ → Result ⊤ Refusal → List ℕ → ℕ → Type 0

@@ -10,6 +10,7 @@ use Rattle.std.specs.Prelude.{◌≡◌, ℕ, ◌+◌, ◌/◌, ◌%◌, ◌<◌
 use Rattle.call_tape.specs.declared.calls.Call.{Call}
 use Rattle.call_tape.specs.declared.fields.Reading.{Reading}
 use Rattle.call_tape.specs.Calls.{tag_of, contents_of, Small}
+use Rattle.call_tape.specs.Fields.{most_bytes}
 use Rattle.call_tape.specs.Tapes.{Tape}
 
 abbrev pub encoded : Call → List ℕ
@@ -28,7 +29,7 @@ placed p [] = []
 placed p (c ∷ cs) = record { place = p; outcome = Ok c } ∷ placed (p + 3 + length (contents_of c)) cs
 
 abbrev pub WrittenReads : Type 0
-WrittenReads = (cs : List Call) → AllSmall cs → length (written cs) ≤ 65535 → Tape (written cs) (placed 0 cs)
+WrittenReads = (cs : List Call) → AllSmall cs → length (written cs) ≤ most_bytes → Tape (written cs) (placed 0 cs)
 
 abbrev pub OnlyWritten : Type 0
 OnlyWritten = (T : List ℕ) (cs : List Call) → ((j : ℕ) → slice_index T j < 256) → Tape T (placed 0 cs) → T ≡ written cs

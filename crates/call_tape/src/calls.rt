@@ -1,5 +1,5 @@
 // What a call is, and how a field's tag and contents say it.
-ghost use Rattle.std.specs.Prelude.{◌≡◌};
+ghost use Rattle.std.specs.Prelude.{◌≡◌, [], ◌∷◌};
 ghost use Rattle.call_tape.specs.Calls.{decoded, number_at, stream_at, opening_of, sized, Decodes, OwnField};
 
 use label::StreamLabel;
@@ -36,16 +36,23 @@ fn number_in(contents: &[u8]) -> Result<u32, Refusal>
     }
 }
 
+// The channel's two bytes stand with the big end first.
+fn label_of(port: u8, high: u8, low: u8, session: u8) -> StreamLabel
+    ensures { result ≡ stream_at (port ∷ high ∷ low ∷ session ∷ []) 0 }
+{
+    StreamLabel {
+        port,
+        channel: u16::from_be_bytes([high, low]),
+        session,
+    }
+}
+
 // The label in contents of four bytes.
 fn stream_in(contents: &[u8]) -> Result<StreamLabel, Refusal>
     ensures { result ≡ sized 4 contents.now (stream_at contents.now 0) }
 {
     match contents {
-        [port, high, low, session] => Ok(StreamLabel {
-            port: *port,
-            channel: u16::from_be_bytes([*high, *low]),
-            session: *session,
-        }),
+        [port, high, low, session] => Ok(label_of(*port, *high, *low, *session)),
         _ => Err(Refusal::WrongFieldLength),
     }
 }
@@ -56,11 +63,7 @@ fn opening_in(contents: &[u8]) -> Result<Opening, Refusal>
 {
     match contents {
         [port, high, low, session, a, b, c, d, e, f, g, h] => Ok(Opening {
-            stream: StreamLabel {
-                port: *port,
-                channel: u16::from_be_bytes([*high, *low]),
-                session: *session,
-            },
+            stream: label_of(*port, *high, *low, *session),
             first: u32::from_be_bytes([*a, *b, *c, *d]),
             length: u32::from_be_bytes([*e, *f, *g, *h]),
         }),

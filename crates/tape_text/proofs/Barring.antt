@@ -6,55 +6,55 @@ use Rattle.call_tape.specs.declared.calls.Call.TheVariants.{Write, Drop, Spoil, 
 use Rattle.call_tape.specs.Written.{encoded, written}
 use Rattle.tape_text.specs.declared.complaints.Complaint.{Complaint}
 use Rattle.tape_text.specs.Numbers.{Numbers, FirstBad, Complains, count, number}
-use Rattle.tape_text.specs.Calls.{tops_of, values_of, Says, Wrong, unknown, numbers, LineMeans, OneMeaning}
+use Rattle.tape_text.specs.Calls.{limits_of, values_of, Says, Wrong, unknown, numbers, LineMeans, OneMeaning}
 use Rattle.tape_text.specs.Lines.{words, LinesSay, end, blank, call}
 use Rattle.tape_text.specs.Taken.{Barred, wrong, full}
 use Rattle.call_tape.proofs.Writing.{length_written_append}
 use Rattle.tape_text.proofs.Once.{alike, says_once}
 
-pub numbers_length : (tops : List ℕ) (ws : List (List ℕ)) (ns : List ℕ) → Numbers tops ws ns → length ws ≡ length tops
+pub numbers_length : (limits : List ℕ) (ws : List (List ℕ)) (ns : List ℕ) → Numbers limits ws ns → length ws ≡ length limits
 numbers_length [] [] [] h = refl
-numbers_length (top ∷ tops) (w ∷ ws) (n ∷ ns) h = omega (arith, numbers_length tops ws ns h.1)
+numbers_length (limit ∷ limits) (w ∷ ws) (n ∷ ns) h = omega (arith, numbers_length limits ws ns h.1)
 numbers_length _ _ _ h = absurd h
 
-none_bad : (tops : List ℕ) (ws : List (List ℕ)) (ns : List ℕ) (i j t : ℕ) → Numbers tops ws ns → FirstBad tops ws i j t → ⊥
-none_bad (top ∷ tops) (w ∷ ws) (n ∷ ns) i j t h (inl (never, _, _)) = never n h.0
-none_bad (top ∷ tops) (w ∷ ws) (n ∷ ns) i j t h (inr (_, _, b)) = none_bad tops ws ns (i + 1) j t h.1 b
-none_bad (top ∷ tops) (w ∷ ws) [] i j t h b = absurd h
-none_bad (top ∷ tops) [] ns i j t h b = absurd b
+none_bad : (limits : List ℕ) (ws : List (List ℕ)) (ns : List ℕ) (i j t : ℕ) → Numbers limits ws ns → FirstBad limits ws i j t → ⊥
+none_bad (limit ∷ limits) (w ∷ ws) (n ∷ ns) i j t h (inl (never, _, _)) = never n h.0
+none_bad (limit ∷ limits) (w ∷ ws) (n ∷ ns) i j t h (inr (_, _, b)) = none_bad limits ws ns (i + 1) j t h.1 b
+none_bad (limit ∷ limits) (w ∷ ws) [] i j t h b = absurd h
+none_bad (limit ∷ limits) [] ns i j t h b = absurd b
 none_bad [] ws ns i j t h b = absurd b
 
-bad_once : (tops : List ℕ) (ws : List (List ℕ)) (i j t k u : ℕ) → FirstBad tops ws i j t → FirstBad tops ws i k u → (j ≡ k) × (t ≡ u)
-bad_once (top ∷ tops) (w ∷ ws) i j t k u (inl (_, a, b)) (inl (_, c, d)) = (a ∙ sym c, b ∙ sym d)
-bad_once (top ∷ tops) (w ∷ ws) i j t k u (inl (never, _, _)) (inr (n, is, _)) = absurd (never n is)
-bad_once (top ∷ tops) (w ∷ ws) i j t k u (inr (n, is, _)) (inl (never, _, _)) = absurd (never n is)
-bad_once (top ∷ tops) (w ∷ ws) i j t k u (inr (_, _, a)) (inr (_, _, b)) = bad_once tops ws (i + 1) j t k u a b
-bad_once (top ∷ tops) [] i j t k u a b = absurd a
+bad_once : (limits : List ℕ) (ws : List (List ℕ)) (i j t k u : ℕ) → FirstBad limits ws i j t → FirstBad limits ws i k u → (j ≡ k) × (t ≡ u)
+bad_once (limit ∷ limits) (w ∷ ws) i j t k u (inl (_, a, b)) (inl (_, c, d)) = (a ∙ sym c, b ∙ sym d)
+bad_once (limit ∷ limits) (w ∷ ws) i j t k u (inl (never, _, _)) (inr (n, is, _)) = absurd (never n is)
+bad_once (limit ∷ limits) (w ∷ ws) i j t k u (inr (n, is, _)) (inl (never, _, _)) = absurd (never n is)
+bad_once (limit ∷ limits) (w ∷ ws) i j t k u (inr (_, _, a)) (inr (_, _, b)) = bad_once limits ws (i + 1) j t k u a b
+bad_once (limit ∷ limits) [] i j t k u a b = absurd a
 bad_once [] ws i j t k u a b = absurd a
 
-complains_once : (tops : List ℕ) (ws : List (List ℕ)) (e f : Complaint) → Complains tops ws e → Complains tops ws f → e ≡ f
-complains_once tops ws _ _ (count n) (count m) = refl
-complains_once tops ws _ _ (count n) (number k u l b) = absurd (n l)
-complains_once tops ws _ _ (number j t l a) (count n) = absurd (n l)
-complains_once tops ws _ _ (number j t l a) (number k u m b) = let s = bad_once tops ws 2 j t k u a b in let p = s.0 in let q = s.1 in cc
+complains_once : (limits : List ℕ) (ws : List (List ℕ)) (e f : Complaint) → Complains limits ws e → Complains limits ws f → e ≡ f
+complains_once limits ws _ _ (count n) (count m) = refl
+complains_once limits ws _ _ (count n) (number k u l b) = absurd (n l)
+complains_once limits ws _ _ (number j t l a) (count n) = absurd (n l)
+complains_once limits ws _ _ (number j t l a) (number k u m b) = let s = bad_once limits ws 2 j t k u a b in let p = s.0 in let q = s.1 in cc
 
-no_complaint : (tops : List ℕ) (ws : List (List ℕ)) (ns : List ℕ) (e : Complaint) → Numbers tops ws ns → Complains tops ws e → ⊥
-no_complaint tops ws ns _ h (count n) = n (numbers_length tops ws ns h)
-no_complaint tops ws ns _ h (number j t l b) = none_bad tops ws ns 2 j t h b
+no_complaint : (limits : List ℕ) (ws : List (List ℕ)) (ns : List ℕ) (e : Complaint) → Numbers limits ws ns → Complains limits ws e → ⊥
+no_complaint limits ws ns _ h (count n) = n (numbers_length limits ws ns h)
+no_complaint limits ws ns _ h (number j t l b) = none_bad limits ws ns 2 j t h b
 
 pub said_not_wrong : (ws : List (List ℕ)) (c : Call) (e : Complaint) → Says ws c → Wrong ws e → ⊥
 said_not_wrong _ c _ h (unknown w ws u) = u c h.0
 said_not_wrong _ c _ h (numbers d w ws e k bad) =
-    let tops : tops_of c ≡ tops_of d = (alike c d (sym h.0 ∙ k)).0 in
-    no_complaint (tops_of d) ws (values_of c) e (rw tops at h.1) bad
+    let limits : limits_of c ≡ limits_of d = (alike c d (sym h.0 ∙ k)).0 in
+    no_complaint (limits_of d) ws (values_of c) e (rw limits at h.1) bad
 
 wrong_once : (ws : List (List ℕ)) (e f : Complaint) → Wrong ws e → Wrong ws f → e ≡ f
 wrong_once _ _ _ (unknown w ws u) (unknown _ _ v) = refl
 wrong_once _ _ _ (unknown w ws u) (numbers d _ _ f l bad) = absurd (u d l)
 wrong_once _ _ _ (numbers c w ws e k bad) (unknown _ _ v) = absurd (v c k)
 wrong_once _ _ _ (numbers c w ws e k bad) (numbers d _ _ f l worse) =
-    let tops : tops_of c ≡ tops_of d = (alike c d (sym k ∙ l)).0 in
-    complains_once (tops_of d) ws e f (rw tops at bad) worse
+    let limits : limits_of c ≡ limits_of d = (alike c d (sym k ∙ l)).0 in
+    complains_once (limits_of d) ws e f (rw limits at bad) worse
 
 pub barred_once : (n : ℕ) (cs : List Call) (L : List ℕ) (e f : Complaint) → Barred n cs L e → Barred n cs L f → e ≡ f
 barred_once n cs L _ _ (wrong e a) (wrong f b) = wrong_once (words L) e f a b
@@ -77,7 +77,7 @@ one_meaning ws (Err e) (Ok (Some d)) h k = absurd (said_not_wrong ws d e k h)
 one_meaning ws (Err e) (Err f) h k = let g = wrong_once ws e f h k in cc
 
 -- no call has more than five numbers, so seven words tell what all mean
-few_numbers : (c : Call) → length (tops_of c) ≤ 5
+few_numbers : (c : Call) → length (limits_of c) ≤ 5
 few_numbers (Write n) = omega arith
 few_numbers (Drop n) = omega arith
 few_numbers (Spoil n) = omega arith
@@ -91,21 +91,21 @@ few_numbers Tally = omega arith
 all_six : (ws : List (List ℕ)) → length (take 6 ws) ≤ 5 → take 6 ws ≡ ws
 all_six ws h = take_all 6 ws (omega (arith, h, length-take 6 ws))
 
-complains_of_all : (tops : List ℕ) (ws : List (List ℕ)) (e : Complaint) → length tops ≤ 5 → Complains tops (take 6 ws) e → Complains tops ws e
-complains_of_all tops ws _ few (count n) = count (λ z. n (omega (arith, z, few, length-take 6 ws)))
-complains_of_all tops ws _ few (number j t l b) = rw (all_six ws (omega (arith, l, few))) at (number j t l b)
+complains_of_all : (limits : List ℕ) (ws : List (List ℕ)) (e : Complaint) → length limits ≤ 5 → Complains limits (take 6 ws) e → Complains limits ws e
+complains_of_all limits ws _ few (count n) = count (λ z. n (omega (arith, z, few, length-take 6 ws)))
+complains_of_all limits ws _ few (number j t l b) = rw (all_six ws (omega (arith, l, few))) at (number j t l b)
 
 wrong_by_first : (vs ws : List (List ℕ)) (w : List ℕ) (e : Complaint) → vs ≡ w ∷ take 6 ws → Wrong vs e → Wrong (w ∷ ws) e
 wrong_by_first _ ws w _ same (unknown v vs u) = let is : v ≡ w = cc in unknown w ws (λ c z. u c (is ∙ z))
 wrong_by_first _ ws w _ same (numbers c v vs e k bad) =
     let is : v ≡ w = cc in
     let rest : vs ≡ take 6 ws = cc in
-    numbers c w ws e (sym is ∙ k) (complains_of_all (tops_of c) ws e (few_numbers c) (rw rest at bad))
+    numbers c w ws e (sym is ∙ k) (complains_of_all (limits_of c) ws e (few_numbers c) (rw rest at bad))
 
 pub means_by_first : (ws : List (List ℕ)) (r : Result (Option Call) Complaint) → LineMeans (take 7 ws) r → LineMeans ws r
 means_by_first [] r h = h
 means_by_first (w ∷ ws) (Ok None) h = absurd cc
-means_by_first (w ∷ ws) (Ok (Some c)) h = (h.0, rw (all_six ws (omega (arith, numbers_length (tops_of c) (take 6 ws) (values_of c) h.1, few_numbers c))) at h.1)
+means_by_first (w ∷ ws) (Ok (Some c)) h = (h.0, rw (all_six ws (omega (arith, numbers_length (limits_of c) (take 6 ws) (values_of c) h.1, few_numbers c))) at h.1)
 means_by_first (w ∷ ws) (Err e) h = wrong_by_first (w ∷ take 6 ws) ws w e refl h
 
 -- a line that says a call, or nothing, where all fits

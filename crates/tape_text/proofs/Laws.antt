@@ -12,7 +12,7 @@ use Rattle.call_tape.specs.Soundness.{Sound}
 use Rattle.call_tape.specs.Written.{written, AllSmall}
 use Rattle.call_tape.specs.Writing.{room, Holds}
 use Rattle.tape_text.specs.declared.complaints.LineFault.{LineFault}
-use Rattle.tape_text.specs.Calls.{word_of, tops_of, values_of, spaced, call_text}
+use Rattle.tape_text.specs.Calls.{word_of, limits_of, values_of, spaced, call_text}
 use Rattle.tape_text.specs.Lines.{LinesSay, said}
 use Rattle.tape_text.specs.Taken.{NoText, FirstBarred, OneTaping, GivesBack}
 use Rattle.tape_text.proofs.Once.{one_saying}
@@ -104,15 +104,15 @@ word_below (Append l) = search rules
 word_below (Close l) = search rules
 word_below Tally = search rules
 
-ascii_spaced : (tops ns : List ℕ) → Within tops ns → IsAscii (spaced ns)
+ascii_spaced : (limits ns : List ℕ) → Within limits ns → IsAscii (spaced ns)
 ascii_spaced [] [] h = IsAscii-nil
-ascii_spaced (top ∷ tops) (n ∷ ns) h = ascii_cons 32 (decimal n ++ spaced ns) (lit< tt) (IsAscii-append (decimal n) (spaced ns) (IsAscii-decimal n (omega arith)) (ascii_spaced tops ns h.2))
+ascii_spaced (limit ∷ limits) (n ∷ ns) h = ascii_cons 32 (decimal n ++ spaced ns) (lit< tt) (IsAscii-append (decimal n) (spaced ns) (IsAscii-decimal n (omega arith)) (ascii_spaced limits ns h.2))
 ascii_spaced _ _ h = absurd h
 
 ascii_said : (cs : List Call) → AllSmall cs → IsAscii (said cs)
 ascii_said [] h = IsAscii-nil
 ascii_said (c ∷ cs) h =
-    let text = IsAscii-append (word_of c) (spaced (values_of c)) (ascii_from_below (word_of c) (word_below c)) (ascii_spaced (tops_of c) (values_of c) (small_within c h.0)) in
+    let text = IsAscii-append (word_of c) (spaced (values_of c)) (ascii_from_below (word_of c) (word_below c)) (ascii_spaced (limits_of c) (values_of c) (small_within c h.0)) in
     IsAscii-append (call_text c) (10 ∷ said cs) text (ascii_cons 10 (said cs) (lit< tt) (ascii_said cs h.1))
 
 pub gives_back : GivesBack

@@ -6,15 +6,15 @@ use Rattle.call_tape.specs.declared.calls.Opening.{Opening}
 use Rattle.call_tape.specs.declared.calls.Call.{Call}
 use Rattle.call_tape.specs.declared.calls.Call.TheVariants.{Write, Drop, Spoil, Read, Trim, Open, Append, Close, Tally}
 use Rattle.tape_text.specs.Numbers.{Numbers}
-use Rattle.tape_text.specs.Calls.{word_of, tops_of, values_of, label_values, opening_values, Says}
+use Rattle.tape_text.specs.Calls.{word_of, limits_of, values_of, label_values, opening_values, Says}
 use Rattle.tape_text.specs.Lines.{words, end, blank, call, OneSaying}
 
 abbrev value_of : List ℕ → ℕ
 value_of w = digits_value 10 (without_leading_plus w)
 
-numbers_are : (tops : List ℕ) (ws : List (List ℕ)) (ns : List ℕ) → Numbers tops ws ns → ns ≡ map value_of ws
+numbers_are : (limits : List ℕ) (ws : List (List ℕ)) (ns : List ℕ) → Numbers limits ws ns → ns ≡ map value_of ws
 numbers_are [] [] [] h = refl
-numbers_are (top ∷ tops) (w ∷ ws) (n ∷ ns) h = let e = numbers_are tops ws ns h.1 in let f = h.0.1 in cc
+numbers_are (limit ∷ limits) (w ∷ ws) (n ∷ ns) h = let e = numbers_are limits ws ns h.1 in let f = h.0.1 in cc
 numbers_are _ _ _ h = absurd h
 
 same_label : (l m : StreamLabel) → label_values l ≡ label_values m → l ≡ m
@@ -38,7 +38,7 @@ mark : List ℕ → ℕ
 mark w = length w * 256 + get_or w 0 0
 
 -- calls of one word take the same numbers, and are equal if their own are
-pub alike : (c d : Call) → word_of c ≡ word_of d → (tops_of c ≡ tops_of d) × (values_of c ≡ values_of d → c ≡ d)
+pub alike : (c d : Call) → word_of c ≡ word_of d → (limits_of c ≡ limits_of d) × (values_of c ≡ values_of d → c ≡ d)
 unfolding mark
 alike (Write m) (Write n) w = (refl, λ v. cc)
 alike (Drop m) (Drop n) w = (refl, λ v. cc)
@@ -55,7 +55,7 @@ pub says_once : (ws : List (List ℕ)) (c d : Call) → Says ws c → Says ws d 
 says_once [] c d h k = absurd h
 says_once (w ∷ ws) c d h k =
     let same : word_of c ≡ word_of d = let e = h.0 in let f = k.0 in cc in
-    (alike c d same).1 (numbers_are (tops_of c) ws (values_of c) h.1 ∙ sym (numbers_are (tops_of d) ws (values_of d) k.1))
+    (alike c d same).1 (numbers_are (limits_of c) ws (values_of c) h.1 ∙ sym (numbers_are (limits_of d) ws (values_of d) k.1))
 
 pub one_saying : OneSaying
 one_saying _ _ _ end end = refl

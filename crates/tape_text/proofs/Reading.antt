@@ -7,7 +7,7 @@ use Rattle.tape_text.specs.declared.complaints.Complaint.TheVariants.{WrongCount
 use Rattle.call_tape.specs.declared.calls.Call.{Call}
 use Rattle.call_tape.specs.declared.calls.Call.TheVariants.{Write, Drop, Spoil, Read, Trim, Open, Append, Close, Tally}
 use Rattle.tape_text.specs.Numbers.{texts, Reads, Numbers, FirstBad, Complains, count, number}
-use Rattle.tape_text.specs.Calls.{word_of, tops_of, number_tops, Says, Wrong, numbers}
+use Rattle.tape_text.specs.Calls.{word_of, limits_of, number_limits, Says, Wrong, numbers}
 
 -- what a slice pattern reads past the end
 abbrev pub no_word : Bor (List ℕ)
@@ -17,11 +17,11 @@ no_word = record { ref_ptr = (0, 0); now = [] }
 pub err_exit : {T E : Type 0} (r : Result T E) (e : E) (P : T → Type 0) (Q : E → Type 0) → IsErrAnd r (λ y. y ≡ e) → Q e → MatchResult r P Q
 err_exit r e P Q h q = let p = err_from_is_err_and r h in rw (p.1, p.2) q
 
-pub miscounted : (tops : List ℕ) (ws : List (Bor (List ℕ))) → length ws ≢ length tops → Complains tops (texts ws) (WrongCount (length tops))
-miscounted tops ws h = count (simp length-map h)
+pub miscounted : (limits : List ℕ) (ws : List (Bor (List ℕ))) → length ws ≢ length limits → Complains limits (texts ws) (WrongCount (length limits))
+miscounted limits ws h = count (simp length-map h)
 
-pub misread : (tops : List ℕ) (ws : List (Bor (List ℕ))) (e : Complaint) (j t : ℕ) → e ≡ BadNumber j t → length ws ≡ length tops → FirstBad tops (texts ws) 2 j t → Complains tops (texts ws) e
-misread tops ws e j t k l h = rw k (number j t (simp length-map l) h)
+pub misread : (limits : List ℕ) (ws : List (Bor (List ℕ))) (e : Complaint) (j t : ℕ) → e ≡ BadNumber j t → length ws ≡ length limits → FirstBad limits (texts ws) 2 j t → Complains limits (texts ws) e
+misread limits ws e j t k l h = rw k (number j t (simp length-map l) h)
 
 -- a list of one element, of three, of five
 module _ (P : List (Bor (List ℕ)) → Type 0) (d : Bor (List ℕ)) where
@@ -59,10 +59,10 @@ unlike w write drop spoil read trim opens append close tally (Close l) = close
 unlike w write drop spoil read trim opens append close tally Tally = tally
 
 -- the one number of a call
-pub one_read : (w : List ℕ) (r : Result ℕ Complaint) → Reads 2 4294967295 w r → MatchResult r (λ n. Numbers number_tops (w ∷ []) (n ∷ [])) (Complains number_tops (w ∷ []))
+pub one_read : (w : List ℕ) (r : Result ℕ Complaint) → Reads 2 4294967295 w r → MatchResult r (λ n. Numbers number_limits (w ∷ []) (n ∷ [])) (Complains number_limits (w ∷ []))
 one_read w (Ok n) h = (h, tt)
 one_read w (Err e) h = rw h.0 (number 2 4294967295 refl (inl (h.1, refl, refl)))
 
 -- the exit of a `?` behind the word of the call c
-pub wrong_exit : (c : Call) (w : List ℕ) (ws : List (List ℕ)) (r : Result Call Complaint) (e : Complaint) → w ≡ word_of c → IsErrAnd r (λ y. y ≡ e) → Complains (tops_of c) ws e → MatchResult r (Says (w ∷ ws)) (Wrong (w ∷ ws))
+pub wrong_exit : (c : Call) (w : List ℕ) (ws : List (List ℕ)) (r : Result Call Complaint) (e : Complaint) → w ≡ word_of c → IsErrAnd r (λ y. y ≡ e) → Complains (limits_of c) ws e → MatchResult r (Says (w ∷ ws)) (Wrong (w ∷ ws))
 wrong_exit c w ws r e k h bad = err_exit r e _ _ h (numbers c w ws e k bad)

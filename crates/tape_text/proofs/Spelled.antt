@@ -11,7 +11,7 @@ use Rattle.call_tape.specs.declared.calls.Call.{Call}
 use Rattle.call_tape.specs.declared.calls.Call.TheVariants.{Write, Drop, Spoil, Read, Trim, Open, Append, Close, Tally}
 use Rattle.call_tape.specs.Calls.{Small}
 use Rattle.tape_text.specs.Numbers.{Number, Numbers}
-use Rattle.tape_text.specs.Calls.{word_of, values_of, tops_of, spaced, call_text, Says}
+use Rattle.tape_text.specs.Calls.{word_of, values_of, limits_of, spaced, call_text, Says}
 use Rattle.tape_text.specs.Lines.{words, said, end, call, SaidReads}
 
 -- each byte is above m
@@ -51,19 +51,19 @@ decimal_above n h = digits_above (decimal n) (decimal_is_IsNumeral n h).0.1
 -- the numbers are no larger than these, which 64 bits hold
 abbrev pub Within : List ℕ → List ℕ → Type 0
 Within [] [] = Unit {0}
-Within (top ∷ tops) (n ∷ ns) = (n ≤ top) × (top < 2 ^ 64) × Within tops ns
+Within (limit ∷ limits) (n ∷ ns) = (n ≤ limit) × (limit < 2 ^ 64) × Within limits ns
 Within _ _ = ⊥
 
-spaced_above : (tops ns : List ℕ) → Within tops ns → Above 31 (spaced ns)
+spaced_above : (limits ns : List ℕ) → Within limits ns → Above 31 (spaced ns)
 spaced_above [] [] h = tt
-spaced_above (top ∷ tops) (n ∷ ns) h = (lit< tt, above_append 31 (decimal n) (spaced ns) (above_less 47 31 (decimal n) (omega arith) (decimal_above n (omega arith))) (spaced_above tops ns h.2))
+spaced_above (limit ∷ limits) (n ∷ ns) h = (lit< tt, above_append 31 (decimal n) (spaced ns) (above_less 47 31 (decimal n) (omega arith) (decimal_above n (omega arith))) (spaced_above limits ns h.2))
 spaced_above _ _ h = absurd h
 
-split_spaced : (tops ns w : List ℕ) → Within tops ns → Above 32 w → slice_split (λ b. b == 32) (w ++ spaced ns) ≡ w ∷ map decimal ns
+split_spaced : (limits ns w : List ℕ) → Within limits ns → Above 32 w → slice_split (λ b. b == 32) (w ++ spaced ns) ≡ w ∷ map decimal ns
 split_spaced [] [] w h a = rw append-nil (slice_split_none (λ b. b == 32) w (lacks 32 32 w (omega arith) a))
-split_spaced (top ∷ tops) (n ∷ ns) w h a =
+split_spaced (limit ∷ limits) (n ∷ ns) w h a =
     slice_split_at (λ b. b == 32) w 32 (decimal n ++ spaced ns) (lacks 32 32 w (omega arith) a) refl
-    ∙ ap (λ z. w ∷ z) (split_spaced tops ns (decimal n) h.2 (above_less 47 32 (decimal n) (omega arith) (decimal_above n (omega arith))))
+    ∙ ap (λ z. w ∷ z) (split_spaced limits ns (decimal n) h.2 (above_less 47 32 (decimal n) (omega arith) (decimal_above n (omega arith))))
 split_spaced _ _ w h a = absurd h
 
 abbrev is_word : List ℕ → Bool
@@ -72,23 +72,23 @@ is_word w = not (length w == 0)
 a_word : (w : List ℕ) → 0 < length w → is_word w ≡ true
 a_word w h = grind (arith, nat_tests)
 
-all_kept : (tops ns : List ℕ) → Within tops ns → filter is_word (map decimal ns) ≡ map decimal ns
+all_kept : (limits ns : List ℕ) → Within limits ns → filter is_word (map decimal ns) ≡ map decimal ns
 all_kept [] [] h = refl
-all_kept (top ∷ tops) (n ∷ ns) h = rw (a_word (decimal n) (decimal_nonempty n (omega arith)), all_kept tops ns h.2) refl
+all_kept (limit ∷ limits) (n ∷ ns) h = rw (a_word (decimal n) (decimal_nonempty n (omega arith)), all_kept limits ns h.2) refl
 all_kept _ _ h = absurd h
 
-a_number : (top n : ℕ) → n ≤ top → top < 2 ^ 64 → Number top (decimal n) n
-a_number top n l h =
+a_number : (limit n : ℕ) → n ≤ limit → limit < 2 ^ 64 → Number limit (decimal n) n
+a_number limit n l h =
     let d = decimal_is_IsNumeral n (omega arith) in
     let plain : without_leading_plus (decimal n) ≡ decimal n = without_leading_plus_none (decimal n) (unlike_at 47 43 (decimal n) 0 (omega arith) (omega arith) (decimal_above n (omega arith))) in
     rw plain (d.0, sym d.1, l)
 
-all_numbers : (tops ns : List ℕ) → Within tops ns → Numbers tops (map decimal ns) ns
+all_numbers : (limits ns : List ℕ) → Within limits ns → Numbers limits (map decimal ns) ns
 all_numbers [] [] h = tt
-all_numbers (top ∷ tops) (n ∷ ns) h = (a_number top n h.0 h.1, all_numbers tops ns h.2)
+all_numbers (limit ∷ limits) (n ∷ ns) h = (a_number limit n h.0 h.1, all_numbers limits ns h.2)
 all_numbers _ _ h = absurd h
 
-pub small_within : (c : Call) → Small c → Within (tops_of c) (values_of c)
+pub small_within : (c : Call) → Small c → Within (limits_of c) (values_of c)
 small_within (Write n) h = (omega arith, lit< tt, tt)
 small_within (Drop n) h = (omega arith, lit< tt, tt)
 small_within (Spoil n) h = (omega arith, lit< tt, tt)
@@ -124,13 +124,13 @@ word_long Tally = lit< tt
 own_words : (c : Call) → Small c → words (call_text c) ≡ word_of c ∷ map decimal (values_of c)
 own_words c h =
     let w = small_within c h in
-    rw (split_spaced (tops_of c) (values_of c) (word_of c) w (word_above c), a_word (word_of c) (word_long c), all_kept (tops_of c) (values_of c) w) refl
+    rw (split_spaced (limits_of c) (values_of c) (word_of c) w (word_above c), a_word (word_of c) (word_long c), all_kept (limits_of c) (values_of c) w) refl
 
 says_own : (c : Call) → Small c → Says (words (call_text c)) c
-says_own c h = rw (own_words c h) (refl, all_numbers (tops_of c) (values_of c) (small_within c h))
+says_own c h = rw (own_words c h) (refl, all_numbers (limits_of c) (values_of c) (small_within c h))
 
 pub text_above : (c : Call) → Small c → Above 31 (call_text c)
-text_above c h = above_append 31 (word_of c) (spaced (values_of c)) (above_less 32 31 (word_of c) (omega arith) (word_above c)) (spaced_above (tops_of c) (values_of c) (small_within c h))
+text_above c h = above_append 31 (word_of c) (spaced (values_of c)) (above_less 32 31 (word_of c) (omega arith) (word_above c)) (spaced_above (limits_of c) (values_of c) (small_within c h))
 
 line_and_more : (x : List ℕ) (ps : List (List ℕ)) → 0 < length ps → lines_of_parts (x ∷ ps) ≡ strip_carriage_return x ∷ lines_of_parts ps
 line_and_more x [] h = absurd (omega arith)

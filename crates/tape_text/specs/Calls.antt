@@ -1,7 +1,7 @@
 -- The calls as words.
 --   word_of c          the first word of the call c
 --   values_of c        its numbers, in order; label_values l, opening_values o, of a label and of an opening
---   tops_of c          the largest number that may stand for each of them: number_tops, label_tops or opening_tops
+--   limits_of c        the largest number that may stand for each of them: number_limits, label_limits or opening_limits
 --   spaced ns          the numbers ns, each behind a blank
 --   call_text c        the text of the call c
 --   Says ws c          the words ws say the call c
@@ -46,25 +46,25 @@ values_of (Append l) = label_values l
 values_of (Close l) = label_values l
 values_of Tally = []
 
-abbrev pub number_tops : List ℕ
-number_tops = 4294967295 ∷ []
+abbrev pub number_limits : List ℕ
+number_limits = 4294967295 ∷ []
 
-abbrev pub label_tops : List ℕ
-label_tops = 255 ∷ 65535 ∷ 255 ∷ []
+abbrev pub label_limits : List ℕ
+label_limits = 255 ∷ 65535 ∷ 255 ∷ []
 
-abbrev pub opening_tops : List ℕ
-opening_tops = 255 ∷ 65535 ∷ 255 ∷ 4294967295 ∷ 4294967295 ∷ []
+abbrev pub opening_limits : List ℕ
+opening_limits = 255 ∷ 65535 ∷ 255 ∷ 4294967295 ∷ 4294967295 ∷ []
 
-abbrev pub tops_of : Call → List ℕ
-tops_of (Write n) = number_tops
-tops_of (Drop n) = number_tops
-tops_of (Spoil n) = number_tops
-tops_of (Read n) = number_tops
-tops_of (Trim n) = number_tops
-tops_of (Open o) = opening_tops
-tops_of (Append l) = label_tops
-tops_of (Close l) = label_tops
-tops_of Tally = []
+abbrev pub limits_of : Call → List ℕ
+limits_of (Write n) = number_limits
+limits_of (Drop n) = number_limits
+limits_of (Spoil n) = number_limits
+limits_of (Read n) = number_limits
+limits_of (Trim n) = number_limits
+limits_of (Open o) = opening_limits
+limits_of (Append l) = label_limits
+limits_of (Close l) = label_limits
+limits_of Tally = []
 
 abbrev pub spaced : List ℕ → List ℕ
 spaced [] = []
@@ -75,12 +75,12 @@ call_text c = word_of c ++ spaced (values_of c)
 
 abbrev pub Says : List (List ℕ) → Call → Type 0
 Says [] c = ⊥
-Says (w ∷ ws) c = (w ≡ word_of c) × Numbers (tops_of c) ws (values_of c)
+Says (w ∷ ws) c = (w ≡ word_of c) × Numbers (limits_of c) ws (values_of c)
 
 -- the first word is no call's; it is one's, and the numbers behind it are wrong
 pub data Wrong : List (List ℕ) → Complaint → Type 0 where
   unknown : (w : List ℕ) (ws : List (List ℕ)) → ((c : Call) → w ≢ word_of c) → Wrong (w ∷ ws) UnknownWord
-  numbers : (c : Call) (w : List ℕ) (ws : List (List ℕ)) (e : Complaint) → w ≡ word_of c → Complains (tops_of c) ws e → Wrong (w ∷ ws) e
+  numbers : (c : Call) (w : List ℕ) (ws : List (List ℕ)) (e : Complaint) → w ≡ word_of c → Complains (limits_of c) ws e → Wrong (w ∷ ws) e
 
 -- a line without words means nothing
 abbrev pub LineMeans : List (List ℕ) → Result (Option Call) Complaint → Type 0

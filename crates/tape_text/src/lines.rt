@@ -1,7 +1,7 @@
 // A line of the text, as the call that it says.
 ghost use Rattle.std.specs.Prelude.{[], ◌∷◌, Some, MatchResult, ◌≡◌, ◌≤◌, take};
 ghost use Rattle.tape_text.specs.Numbers.{texts, ReadsAll};
-ghost use Rattle.tape_text.specs.Calls.{number_tops, label_tops, opening_tops, label_values, opening_values, call_text, Says, Wrong, LineMeans, OneMeaning};
+ghost use Rattle.tape_text.specs.Calls.{number_limits, label_limits, opening_limits, label_values, opening_values, call_text, Says, Wrong, LineMeans, OneMeaning};
 ghost use Rattle.tape_text.specs.Lines.{words};
 
 use crate::complaints::Complaint;
@@ -49,7 +49,7 @@ impl Display for CallText {
 // The number of a call that takes one.
 #[tactic(auto, using(crate::proofs::Reading::miscounted))]
 fn number_in(words: &[&str]) -> Result<u32, Complaint>
-    ensures { ReadsAll number_tops (texts words.now) (λ n. n ∷ []) result }
+    ensures { ReadsAll number_limits (texts words.now) (λ n. n ∷ []) result }
 {
     match *words {
         [number] => u32_in(2, number),
@@ -60,7 +60,7 @@ fn number_in(words: &[&str]) -> Result<u32, Complaint>
 // The label of a call that takes just that.
 #[tactic(auto, using(crate::proofs::Reading::miscounted))]
 fn stream_in(words: &[&str]) -> Result<StreamLabel, Complaint>
-    ensures { ReadsAll label_tops (texts words.now) label_values result }
+    ensures { ReadsAll label_limits (texts words.now) label_values result }
 {
     match *words {
         [port, channel, session] => Ok(StreamLabel {
@@ -72,10 +72,9 @@ fn stream_in(words: &[&str]) -> Result<StreamLabel, Complaint>
     }
 }
 
-// The opening of the call that takes one.
 #[tactic(auto, using(crate::proofs::Reading::miscounted))]
 fn opening_in(words: &[&str]) -> Result<Opening, Complaint>
-    ensures { ReadsAll opening_tops (texts words.now) opening_values result }
+    ensures { ReadsAll opening_limits (texts words.now) opening_values result }
 {
     match *words {
         [port, channel, session, first, length] => Ok(Opening {

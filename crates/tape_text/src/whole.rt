@@ -35,7 +35,6 @@ pub fn text_of_tape(tape: &[u8], heap: Global) -> Result<Result<String, Vec<Faul
     })
 }
 
-// The bytes as text.
 fn text_in(bytes: &[u8]) -> Result<&str, LineFault>
     ensures { MatchResult result (λ text. (text.now ≡ bytes.now) × IsUtf8 bytes.now) (NoText bytes.now) }
 {

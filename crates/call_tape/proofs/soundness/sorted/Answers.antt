@@ -10,8 +10,8 @@ loop-reading-init c = (c.new-calls.ensures.items, c.new-faults.ensures.items)
 
 pub loop-reading-preserved : goal.loop-reading-preserved
 loop-reading-preserved c = elim c.match-reading.branch [
-  | in-Ok+in_ok-push-in-Ok w ↦ sorted_call c.args.all.now c.loop-reading.reading-index _ c.loop-reading-test.true w.in-Ok.call _ _ _ _ w.in-Ok.is c.loop-reading.invariant (ap (λ v. v.items) w.calls-is ∙ w.in_ok-push-in-Ok.ensures.items) (ap (λ v. v.items) w.faults-is)
-  | in-Err+in_ok-push-in-Err w ↦ sorted_fault c.args.all.now c.loop-reading.reading-index _ c.loop-reading-test.true w.in-Err.refusal _ _ _ _ w.in-Err.is c.loop-reading.invariant (ap (λ v. v.items) w.calls-is) (ap (λ v. v.items) w.faults-is ∙ w.in_ok-push-in-Err.ensures.items)
+  | in-Ok+in_ok-push-in-Ok w ↦ sorted_call c.args.all.now c.loop-reading.reading-index _ c.loop-reading-test.true _ _ _ _ c.loop-reading.invariant w.in-Ok.call w.in-Ok.is (ap (λ v. v.items) w.calls-is ∙ w.in_ok-push-in-Ok.ensures.items) (ap (λ v. v.items) w.faults-is)
+  | in-Err+in_ok-push-in-Err w ↦ sorted_fault c.args.all.now c.loop-reading.reading-index _ c.loop-reading-test.true _ _ _ _ c.loop-reading.invariant w.in-Err.refusal w.in-Err.is (ap (λ v. v.items) w.calls-is) (ap (λ v. v.items) w.faults-is ∙ w.in_ok-push-in-Err.ensures.items)
 ]
 
 pub returns : goal.returns

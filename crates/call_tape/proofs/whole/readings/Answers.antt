@@ -8,7 +8,7 @@ use Rattle.call_tape.specs.Tapes.{Tape, OneReading}
 use Rattle.call_tape.specs.Written.{WrittenReads, OnlyWritten}
 use Rattle.call_tape.proofs.Runs.{one_reading, opened_reads}
 use Rattle.call_tape.proofs.Written.{written_reads}
-use Rattle.call_tape.proofs.OnlyWritten.{only_written}
+use Rattle.call_tape.proofs.Judging.{only_written}
 use Rattle.call_tape.proofs.whole.readings.Goals as goal
 
 -- each return owes the theorems too

@@ -1,20 +1,20 @@
 use Rattle.std.proofs.Common.{inl, inr, refl, arith}
 use Rattle.tape_text.specs.Numbers.{texts, FirstBad}
-use Rattle.tape_text.specs.Calls.{label_tops}
+use Rattle.tape_text.specs.Calls.{label_limits}
 use Rattle.tape_text.proofs.Reading.{err_exit, misread, at_three}
 use Rattle.tape_text.proofs.lines.stream_in.Goals as goal
 
 pub returns-in_err-u8_in-in-len3 : goal.returns-in_err-u8_in-in-len3
 returns-in_err-u8_in-in-len3 c =
-    err_exit _ _ _ _ c.from_residual.ensures.1 (misread label_tops c.args.words.now _ 2 255 c.in_err-u8_in-in-len3.ensures.0 (omega arith)
-    (at_three (λ ws. FirstBad label_tops (texts ws) 2 2 255) _ c.args.words.now (omega arith) (omega arith) (inl (c.in_err-u8_in-in-len3.ensures.1, refl, refl))))
+    err_exit _ _ _ _ c.from_residual.ensures.1 (misread label_limits c.args.words.now _ 2 255 c.in_err-u8_in-in-len3.ensures.0 (omega arith)
+    (at_three (λ ws. FirstBad label_limits (texts ws) 2 2 255) _ c.args.words.now (omega arith) (omega arith) (inl (c.in_err-u8_in-in-len3.ensures.1, refl, refl))))
 
 pub returns-in_err-u16_in-in-len3 : goal.returns-in_err-u16_in-in-len3
 returns-in_err-u16_in-in-len3 c =
-    err_exit _ _ _ _ c.from_residual-in_err-u16_in-in-len3.ensures.1 (misread label_tops c.args.words.now _ 3 65535 c.in_err-u16_in-in-len3.ensures.0 (omega arith)
-    (at_three (λ ws. FirstBad label_tops (texts ws) 2 3 65535) _ c.args.words.now (omega arith) (omega arith) (inr (_, c.in_ok-u8_in-in-len3.ensures, inl (c.in_err-u16_in-in-len3.ensures.1, refl, refl)))))
+    err_exit _ _ _ _ c.from_residual-in_err-u16_in-in-len3.ensures.1 (misread label_limits c.args.words.now _ 3 65535 c.in_err-u16_in-in-len3.ensures.0 (omega arith)
+    (at_three (λ ws. FirstBad label_limits (texts ws) 2 3 65535) _ c.args.words.now (omega arith) (omega arith) (inr (_, c.in_ok-u8_in-in-len3.ensures, inl (c.in_err-u16_in-in-len3.ensures.1, refl, refl)))))
 
 pub returns-in_err-u8_in-in-len3-2 : goal.returns-in_err-u8_in-in-len3-2
 returns-in_err-u8_in-in-len3-2 c =
-    err_exit _ _ _ _ c.from_residual-in_err-u8_in-in-len3-2.ensures.1 (misread label_tops c.args.words.now _ 4 255 c.in_err-u8_in-in-len3-2.ensures.0 (omega arith)
-    (at_three (λ ws. FirstBad label_tops (texts ws) 2 4 255) _ c.args.words.now (omega arith) (omega arith) (inr (_, c.in_ok-u8_in-in-len3.ensures, inr (_, c.in_ok-u16_in-in-len3.ensures, inl (c.in_err-u8_in-in-len3-2.ensures.1, refl, refl))))))
+    err_exit _ _ _ _ c.from_residual-in_err-u8_in-in-len3-2.ensures.1 (misread label_limits c.args.words.now _ 4 255 c.in_err-u8_in-in-len3-2.ensures.0 (omega arith)
+    (at_three (λ ws. FirstBad label_limits (texts ws) 2 4 255) _ c.args.words.now (omega arith) (omega arith) (inr (_, c.in_ok-u8_in-in-len3.ensures, inr (_, c.in_ok-u16_in-in-len3.ensures, inl (c.in_err-u8_in-in-len3-2.ensures.1, refl, refl))))))
