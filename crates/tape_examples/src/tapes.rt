@@ -157,3 +157,13 @@ fn a_fault_in_words(rt: HostRuntime) -> Result<(), Fail> {
         "place 24: layer 2, fault 14: no call has the tag",
     )
 }
+
+#[test]
+fn a_refusal_in_words(rt: HostRuntime) -> Result<(), Fail> {
+    let unknown = Refusal::UnknownTag;
+    let text = format!(in rt.alloc(); "{unknown}")?;
+    check_eq(text.as_str(), "refusal 14: the tag is unknown")?;
+    let short = Refusal::AreaTooShort;
+    let text = format!(in rt.alloc(); "{short}")?;
+    check_eq(text.as_str(), "refusal 17: the output area is too short")
+}
