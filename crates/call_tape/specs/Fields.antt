@@ -4,14 +4,16 @@
 --   Whole T p         all of it stands on the tape
 --   Cut T p           it begins on the tape, and the tape ends inside it
 --   most_bytes        the most bytes of a tape
+--   most_from T p     the most readings that the tape T can have from the place p on
+--   most_readings T   the most that it can have in all
 --   Opened T r        what opening T answers
 --   First L p r       the bytes L, which stand at the place p, begin with the field r
 --   Taken T p r q     taking the field at p answers r, and goes on at q
 --   Next T p r q      the same of what the field says
---   Further T p r q   a reading leads on, and stays within the tape
+--   Further T p r q   a reading leads on, stays within the tape, and leaves fewer
 --   Gives s r t       the reader s gives the reading r, and is then t
 -- Assumes nothing; a byte past the tape's end counts as 0.
-use Rattle.std.specs.Prelude.{◌≡◌, ℕ, ◌+◌, ◌*◌, ◌<◌, ◌≤◌, ◌⊎◌, List, length, take, drop, Some, None, Ok, Err, Option, Result, slice_index}
+use Rattle.std.specs.Prelude.{◌≡◌, ℕ, ◌+◌, ◌-◌, ◌*◌, ◌/◌, ◌<◌, ◌≤◌, ◌⊎◌, List, length, take, drop, Some, None, Ok, Err, Option, Result, slice_index, nat_le, if◌then◌else◌}
 use Rattle.refusal.specs.declared.Refusal.TheVariants.{FieldCutShort, TapeTooLong}
 use Rattle.call_tape.specs.declared.faults.Fault.{Fault}
 use Rattle.call_tape.specs.declared.fields.Field.{Field}
@@ -40,6 +42,14 @@ Cut T p = (p < length T) × (length T < behind T p)
 abbrev pub most_bytes : ℕ
 most_bytes = 65535
 
+-- a field has three bytes or more, unless the tape's end cuts it short
+abbrev pub most_from : List ℕ → ℕ → ℕ
+most_from T p = (length T - p + 2) / 3
+
+-- a longer tape is one fault
+abbrev pub most_readings : List ℕ → ℕ
+most_readings T = if nat_le (length T) most_bytes then most_from T 0 else 1
+
 -- a longer tape is not opened
 abbrev pub Opened : List ℕ → Result Reader Fault → Type 0
 Opened T (Ok r) = (length T ≤ most_bytes) × (r.tape.now ≡ T) × (r.place ≡ 0)
@@ -63,7 +73,7 @@ Next T p (Some r) q =
 
 abbrev pub Further : List ℕ → ℕ → Option Reading → ℕ → Type 0
 Further T p None q = (length T ≤ p) × (q ≡ p)
-Further T p (Some r) q = (p < q) × (q ≤ length T) × (r.place ≡ p)
+Further T p (Some r) q = (p < q) × (q ≤ length T) × (r.place ≡ p) × (most_from T q < most_from T p)
 
 abbrev pub Gives : Reader → Option Reading → Reader → Type 0
 Gives s r t = (t.tape.now ≡ s.tape.now) × Next s.tape.now s.place r t.place

@@ -2,6 +2,7 @@
 --   Reads T p rs   from the place p on, the tape T says the readings rs, in order
 --   Tape T rs      the whole tape T says rs
 --   OneReading     no tape says two things
+--   HasAtMost T n  the tape T says no more than n readings
 -- Assumes nothing.
 use Rattle.std.specs.Prelude.{◌≡◌, ℕ, ◌<◌, ◌≤◌, ◌⊎◌, List, [], ◌∷◌, length, Err}
 use Rattle.refusal.specs.declared.Refusal.TheVariants.{FieldCutShort, TapeTooLong}
@@ -23,3 +24,6 @@ Tape T rs =
 
 abbrev pub OneReading : Type 0
 OneReading = (T : List ℕ) (xs ys : List Reading) → Tape T xs → Tape T ys → xs ≡ ys
+
+abbrev pub HasAtMost : List ℕ → ℕ → Type 0
+HasAtMost T n = (rs : List Reading) → Tape T rs → length rs ≤ n

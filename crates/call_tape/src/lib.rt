@@ -12,5 +12,5 @@ pub use calls::{Call, Opening, decode};
 pub use faults::Fault;
 pub use fields::{Field, LIMIT, Reader, Reading};
 pub use soundness::sound_calls;
-pub use whole::readings;
+pub use whole::{most_readings, readings};
 pub use writer::Writer;

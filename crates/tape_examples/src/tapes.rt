@@ -1,5 +1,5 @@
 // Tapes of every call and of every fault.
-use call_tape::{Call, Fault, Reader, Reading, readings};
+use call_tape::{Call, Fault, Reader, Reading, most_readings, readings};
 use checks::{check, check_eq};
 use refusal::Refusal;
 use std::test::*;
@@ -112,6 +112,7 @@ fn a_field_cut_at_each_byte(rt: HostRuntime) -> Result<(), Fail> {
 #[test]
 fn the_longest_tape(rt: HostRuntime) -> Result<(), Fail> {
     let mut tape = vec![in rt.alloc(); 0u8; 65_535]?;
+    check_eq(most_readings(&tape), 21_845)?;
     let all = readings(tape.as_slice(), rt.alloc())?;
     check_eq(all.len(), 21_845)?;
     check_eq(
@@ -119,7 +120,16 @@ fn the_longest_tape(rt: HostRuntime) -> Result<(), Fail> {
         Some(refused(65_532, Refusal::UnknownTag)),
     )?;
     tape.push(0)?;
+    check_eq(most_readings(&tape), 1)?;
     says(&rt, tape.as_slice(), &[refused(0, Refusal::TapeTooLong)])
+}
+
+#[test]
+fn the_most_readings() -> Result<(), Fail> {
+    check_eq(most_readings(&[]), 0)?;
+    check_eq(most_readings(&[9]), 1)?;
+    check_eq(most_readings(&[9, 0, 0]), 1)?;
+    check_eq(most_readings(&[9, 0, 0, 9]), 2)
 }
 
 #[test]
