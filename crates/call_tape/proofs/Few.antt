@@ -1,5 +1,5 @@
 -- How many readings a tape can have.
-use Rattle.std.proofs.Common.{◌≡◌, ℕ, ◌+◌, ◌/◌, ◌<◌, ◌≤◌, List, length, Some, ap, inl, inr, arith}
+use Rattle.std.proofs.Common.{◌≡◌, ℕ, ◌+◌, ◌/◌, ◌<◌, ◌≤◌, List, length, Some, ap, ◌∙◌, inl, inr, arith}
 use Rattle.std.proofs.lemmas.Bool.Decides.{nat_tests}
 use Rattle.call_tape.specs.declared.fields.Reader.{Reader}
 use Rattle.call_tape.specs.declared.fields.Reading.{Reading}
@@ -33,3 +33,12 @@ few_readings T rs (inr (l, h)) = omega (arith, few_from T 0 rs h, most_opened T 
 
 pub few_opened : (T : List ℕ) → length T ≤ most_bytes → HasAtMost T ((length T + 2) / 3)
 few_opened T l rs h = omega (arith, few_readings T rs h, most_opened T l)
+
+-- the reader r of the tape T leaves no more readings than a vector of this length and capacity has room for
+abbrev pub Ample : List ℕ → Reader → ℕ → ℕ → Type 0
+Ample T r len room = (r.tape.now ≡ T) × (len + most_from T r.place ≤ room)
+
+pub ample_on : (T : List ℕ) (r s : Reader) (x : Reading) (len room m n : ℕ) → Gives r (Some x) s → Ample T r len room → m ≤ len + 1 → room ≤ n → Ample T s m n
+ample_on T r s x len room m n gives (at, fits) l k =
+    let fewer : most_from T s.place < most_from T r.place = rw at at (gives_fewer r s x gives) in
+    (gives.0 ∙ at, omega (arith, fewer, fits))

@@ -1,7 +1,9 @@
 -- Every tape of bytes is sound or has a first fault, and not both.
-use Rattle.std.proofs.Common.{◌≡◌, ℕ, ◌+◌, ◌≤◌, ◌⊎◌, List, [], ◌∷◌, ◌++◌, length, get_or, take, drop, Result, sym, refl, ap, ◌∙◌, inl, inr, subst, arith, length-append, length-drop, append-nil, append_assoc, take-append-drop, IsOk, Ok, Err}
+use Rattle.std.proofs.Common.{◌≡◌, ℕ, ◌+◌, ◌≤◌, ◌⊎◌, List, [], ◌∷◌, ◌++◌, length, get_or, take, drop, Result, sym, refl, ap, ◌∙◌, inl, inr, subst, arith, length-append, length-drop, append-nil, append_assoc, take-append-drop, Bool, true, false, ◌==◌, eqb-true, IsOk, Ok, Err}
 use Rattle.std.specs.Bool.{⊤}
 use Rattle.std.proofs.lemmas.List.{length-take-le, take_all}
+use Rattle.std.proofs.lemmas.Bool.{eqb-false}
+use Rattle.std.proofs.lemmas.Bool.Decides.{nat_tests}
 use lib.Seq.{take-append_seam}
 use Rattle.refusal.specs.declared.Refusal.{Refusal}
 use Rattle.refusal.specs.declared.Refusal.TheVariants.{FieldCutShort, UnknownTag, WrongFieldLength, TapeTooLong}
@@ -10,8 +12,9 @@ use Rattle.call_tape.specs.declared.faults.Fault.{Fault}
 use Rattle.call_tape.specs.declared.fields.Reading.{Reading}
 use Rattle.call_tape.specs.Calls.{tag_of, contents_of, Small, Decodes, call, unknown, wrong}
 use Rattle.call_tape.specs.Fields.{tag_at, size_at, contents_at, behind, Whole}
-use Rattle.call_tape.specs.Soundness.{Sound, Faulty, cut, FirstFault, long, calls_in, faults_in, WrittenAgain, SoundFaultless}
+use Rattle.call_tape.specs.Soundness.{Sound, Faulty, cut, FirstFault, long, calls_in, faults_in, Judged, FaultsAdded, WrittenAgain, SoundFaultless}
 use Rattle.call_tape.specs.Soundness as sound
+use Rattle.call_tape.specs.Laws.{TapeLaws}
 use Rattle.call_tape.specs.Tapes.{Reads, end, short, field, Tape}
 use Rattle.call_tape.specs.Written.{encoded, written, AllSmall, placed, OnlyWritten}
 use Rattle.call_tape.specs.Writing.{Added, Holds}
@@ -20,6 +23,10 @@ use Rattle.call_tape.proofs.Cutting.{Bytes, bytes_part, cut_up, digits}
 use Rattle.call_tape.proofs.Runs.{one_reading}
 use Rattle.call_tape.proofs.Written.{written_reads}
 use Rattle.call_tape.proofs.Writing.{written_more, length_written_append, small_more, held_length}
+
+length_none : {A : Type 0} (xs : List A) → length xs ≡ 0 → xs ≡ []
+length_none [] e = refl
+length_none (x ∷ xs) e = absurd (omega (arith, e))
 
 -- behind the calls cs the tape says the readings rs: it is sound, or one of them is its first fault
 abbrev pub Verdict : List ℕ → List Call → List Reading → Type 0
@@ -68,18 +75,29 @@ pub judged : (T : List ℕ) (rs : List Reading) → Bytes T → Tape T rs → Ve
 judged T rs bytes (inl (l, e)) = rw e (inr (record { place = 0; refusal = TapeTooLong }, [], refl, long l))
 judged T rs bytes (inr (l, h)) = judged_on T bytes l 0 [] rs h tt refl refl
 
-module _ (T : List ℕ) (rs : List Reading) (bytes : Bytes T) (h : Tape T rs) (cs : List Call) (fs : List Fault) (calls : cs ≡ calls_in rs) (faults : fs ≡ faults_in rs) where
-  pub judged_sound : length fs ≡ 0 → Sound T cs
-  judged_sound n = elim (judged T rs bytes h) [
-    | inl (none, is) ↦ rw calls is
-    | inr (f, gs, is, first) ↦ absurd (omega (arith, n, ap length (faults ∙ is)))
+module _ (T : List ℕ) (rs : List Reading) (bytes : Bytes T) (h : Tape T rs) where
+  sound_calls : length (faults_in rs) ≡ 0 → Sound T (calls_in rs)
+  sound_calls n = elim (judged T rs bytes h) [
+    | inl (none, is) ↦ is
+    | inr (f, gs, is, first) ↦ absurd (omega (arith, n, ap length is))
   ]
 
-  pub judged_faulty : (length fs ≡ 0 → ⊥) → (f : Fault) × (gs : List Fault) × (ss : List Reading) × (fs ≡ f ∷ gs) × FirstFault T f × Tape T ss × (fs ≡ faults_in ss)
-  judged_faulty n = elim (judged T rs bytes h) [
-    | inl (none, is) ↦ absurd (n (ap length (faults ∙ none)))
-    | inr (f, gs, is, first) ↦ (f, gs, rs, faults ∙ is, first, h, faults)
+  -- the faults, by whether there are any
+  judged_faults : (b : Bool) → (length (faults_in rs) == 0) ≡ b → Judged T (faults_in rs) b
+  judged_faults true e =
+      let n : length (faults_in rs) ≡ 0 = eqb-true (length (faults_in rs)) 0 e in
+      (length_none (faults_in rs) n, (calls_in rs, sound_calls n))
+  judged_faults false e = elim (judged T rs bytes h) [
+    | inl (none, is) ↦ absurd (eqb-false (length (faults_in rs)) 0 e (ap length none))
+    | inr (f, gs, is, first) ↦ (f, gs, rs, is, first, h, refl)
   ]
+
+  -- the faults behind xs, by whether the whole is longer than xs
+  pub faults_added : (xs ys : List Fault) (m n : ℕ) → ys ≡ xs ++ faults_in rs → m ≡ length ys → n ≡ length xs → FaultsAdded T xs ys (m == n)
+  faults_added xs ys m n e p q = (faults_in rs, e, judged_faults (m == n) (same (length (faults_in rs)) m n (omega (arith, p, q, ap length e, length-append xs (faults_in rs)))))
+    where
+      same : (k m n : ℕ) → m ≡ n + k → (k == 0) ≡ (m == n)
+      same k m n h = grind (arith, nat_tests)
 
 placed_faultless : (p : ℕ) (cs : List Call) → faults_in (placed p cs) ≡ []
 placed_faultless p [] = refl
@@ -91,7 +109,7 @@ calls_placed p (c ∷ cs) = ap (λ ds. c ∷ ds) (calls_placed (p + 3 + length (
 
 -- a tape that says calls and no fault is the one that is written from those calls
 pub only_written : OnlyWritten
-only_written T cs bytes says = (judged_sound T (placed 0 cs) bytes says cs [] (sym (calls_placed 0 cs)) (sym (placed_faultless 0 cs)) refl).2
+only_written T cs bytes says = (rw (calls_placed 0 cs) at (sound_calls T (placed 0 cs) bytes says (ap length (placed_faultless 0 cs)))).2
 
 pub sound_faultless : SoundFaultless
 sound_faultless T cs rs (l, small, is) h =
@@ -108,3 +126,6 @@ written_again = record { accepted = accepted; same = same }
 
     same : (T Z A : List ℕ) (u : ℕ) (cs : List Call) → Sound T cs → Holds Z A u cs → take u A ≡ T
     same T Z A u cs (l, small, is) (small', at, within, laid) = rw (laid, at) (take-append_seam (written cs) _ ∙ sym is)
+
+pub tape_laws : TapeLaws
+tape_laws = record { once = one_reading; written = written_reads; only = only_written; again = written_again; faultless = sound_faultless }

@@ -2,6 +2,7 @@
 pub mod Calls
 pub mod Faults
 pub mod Fields
+pub mod Laws
 pub mod Soundness
 pub mod Tapes
 pub mod Writing

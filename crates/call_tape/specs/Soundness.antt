@@ -4,11 +4,12 @@
 --   FirstFault T f   f is the first fault of T: what stands before it is the tape of calls
 --   calls_in rs, faults_in rs   the calls, and the faults, among the readings rs, in order
 --   Unsound T all    T has faults, all of them in order, of which the first is named
---   Judged T r       the judgment r of T: its calls where it is sound, or else all its faults
+--   Judged T all b   the faults `all` of T: none where b says that it is sound, or else all that it has
+--   FaultsAdded T xs ys b   ys is xs, and behind it the faults of T, by which b judges it
 --   WrittenAgain     a sound tape's calls, added in order to a new tape in any area, give that tape
 --   SoundFaultless   a sound tape says no fault
 -- Assumes nothing.
-use Rattle.std.specs.Prelude.{◌≡◌, ℕ, ◌<◌, ◌≤◌, List, [], ◌∷◌, ◌++◌, length, take, Ok, Err, Result, IsOk, ◌≢◌, Vec, ⊤}
+use Rattle.std.specs.Prelude.{◌≡◌, ℕ, ◌<◌, ◌≤◌, List, [], ◌∷◌, ◌++◌, length, take, Ok, Err, Result, IsOk, ◌≢◌, Bool, true, false, ⊤}
 use Rattle.refusal.specs.declared.Refusal.{Refusal}
 use Rattle.refusal.specs.declared.Refusal.TheVariants.{FieldCutShort, UnknownTag, WrongFieldLength, TapeTooLong}
 use Rattle.call_tape.specs.declared.calls.Call.{Call}
@@ -45,9 +46,12 @@ faults_in (r ∷ rs) = elim r.outcome [ Ok c ↦ faults_in rs | Err e ↦ record
 abbrev pub Unsound : List ℕ → List Fault → Type 0
 Unsound T all = (f : Fault) × (fs : List Fault) × (rs : List Reading) × (all ≡ f ∷ fs) × FirstFault T f × Tape T rs × (all ≡ faults_in rs)
 
-abbrev pub Judged : {A : Type 0} → List ℕ → Result (Vec Call A) (Vec Fault A) → Type 0
-Judged T (Ok v) = Sound T v.items
-Judged T (Err v) = Unsound T v.items
+abbrev pub Judged : List ℕ → List Fault → Bool → Type 0
+Judged T all true = (all ≡ []) × ((cs : List Call) × Sound T cs)
+Judged T all false = Unsound T all
+
+abbrev pub FaultsAdded : List ℕ → List Fault → List Fault → Bool → Type 0
+FaultsAdded T xs ys sound = (all : List Fault) × (ys ≡ xs ++ all) × Judged T all sound
 
 -- each call is accepted where the area has room for the tape, and in the end the tape is there
 pub record WrittenAgain : Type 0 where

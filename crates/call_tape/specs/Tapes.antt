@@ -3,8 +3,9 @@
 --   Tape T rs      the whole tape T says rs
 --   OneReading     no tape says two things
 --   HasAtMost T n  the tape T says no more than n readings
+--   ReadingsAdded T xs ys   ys is xs, and behind it all that the tape T says
 -- Assumes nothing.
-use Rattle.std.specs.Prelude.{◌≡◌, ℕ, ◌<◌, ◌≤◌, ◌⊎◌, List, [], ◌∷◌, length, Err}
+use Rattle.std.specs.Prelude.{◌≡◌, ℕ, ◌<◌, ◌≤◌, ◌⊎◌, List, [], ◌∷◌, ◌++◌, length, Err}
 use Rattle.refusal.specs.declared.Refusal.TheVariants.{FieldCutShort, TapeTooLong}
 use Rattle.call_tape.specs.declared.fields.Reading.{Reading}
 use Rattle.call_tape.specs.Calls.{decoded}
@@ -27,3 +28,6 @@ OneReading = (T : List ℕ) (xs ys : List Reading) → Tape T xs → Tape T ys �
 
 abbrev pub HasAtMost : List ℕ → ℕ → Type 0
 HasAtMost T n = (rs : List Reading) → Tape T rs → length rs ≤ n
+
+abbrev pub ReadingsAdded : List ℕ → List Reading → List Reading → Type 0
+ReadingsAdded T xs ys = (rs : List Reading) × Tape T rs × (ys ≡ xs ++ rs)

@@ -11,6 +11,6 @@ mod writer;
 pub use calls::{Call, Opening, decode};
 pub use faults::Fault;
 pub use fields::{Field, LIMIT, Reader, Reading};
-pub use soundness::sound_calls;
+pub use soundness::faults_of;
 pub use whole::{most_readings, readings};
 pub use writer::Writer;

@@ -1,42 +1,37 @@
-// Whether a tape is sound: its calls, or all its faults.
-ghost use Rattle.std.specs.Prelude.{◌≡◌, IfOk};
-ghost use Rattle.call_tape.specs.Soundness.{calls_in, faults_in, Judged, WrittenAgain, SoundFaultless};
+// Whether a tape is sound, or all its faults.
+ghost use Rattle.std.specs.Prelude.{◌+◌, ◌≤◌, IfOk, IsOk, OnErr, vec_len, vec_capacity};
+ghost use Rattle.std.specs.Vec.{VecUnchanged};
+ghost use Rattle.call_tape.specs.Fields.{most_readings};
+ghost use Rattle.call_tape.specs.Laws.{TapeLaws};
+ghost use Rattle.call_tape.specs.Soundness.{FaultsAdded};
 
-use crate::calls::Call;
 use crate::faults::Fault;
-use crate::fields::Reading;
-use crate::whole::readings;
-use std::alloc::{AllocError, Global};
+use crate::fields::Reader;
+use crate::whole::most_readings;
+use std::alloc::AllocError;
 
-// The calls and the faults among the readings, each in order.
-fn sorted(all: &[Reading], heap: Global) -> Result<(Vec<Call>, Vec<Fault>), AllocError>
-    ensures { IfOk result (λ r. (r.0.items ≡ calls_in all.now) × (r.1.items ≡ faults_in all.now)) }
+/// Adds every fault of the tape behind those that `faults` holds, in order, and answers whether the
+/// tape is sound, that is, has none. Without memory for the most that there can be, `faults` stays
+/// as it is.
+pub fn faults_of(tape: &[u8], faults: &mut Vec<Fault>) -> Result<bool, AllocError>
+    ensures judged { IfOk result (FaultsAdded tape.now faults.old.items faults.new.items) }
+    ensures err { OnErr result (VecUnchanged faults.old faults.new) }
+    ensures room { vec_len faults.old + most_readings tape.now ≤ vec_capacity faults.old → IsOk result }
+    ensures capacity { vec_capacity faults.old ≤ vec_capacity faults.new }
+    ensures laws { TapeLaws }
 {
-    let mut calls = Vec::new(heap);
-    let mut faults = Vec::new(heap);
-    for reading in all {
-        match reading.outcome {
-            Ok(call) => calls.push(call)?,
-            Err(refusal) => faults.push(Fault {
-                place: reading.place,
-                refusal,
-            })?,
+    let before = faults.len();
+    faults.reserve(most_readings(tape))?;
+    match Reader::new(tape) {
+        Ok(reader) => {
+            for reading in reader {
+                if let Err(refusal) = reading.outcome {
+                    let place = reading.place;
+                    faults.push(Fault { place, refusal }).unwrap();
+                }
+            }
         }
+        Err(fault) => faults.push(fault).unwrap(),
     }
-    Ok((calls, faults))
-}
-
-// The calls of a sound tape, in order, or every fault of another.
-pub fn sound_calls(tape: &[u8], heap: Global) -> Result<Result<Vec<Call>, Vec<Fault>>, AllocError>
-    ensures judged { IfOk result (Judged tape.now) }
-    ensures again { WrittenAgain }
-    ensures faultless { SoundFaultless }
-{
-    let all = readings(tape, heap)?;
-    let (calls, faults) = sorted(&all, heap)?;
-    Ok(if faults.is_empty() {
-        Ok(calls)
-    } else {
-        Err(faults)
-    })
+    Ok(faults.len() == before)
 }

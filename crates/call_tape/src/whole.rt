@@ -1,11 +1,12 @@
 // All that a tape says, from its first byte to its last.
-ghost use Rattle.std.specs.Prelude.{◌≡◌, IfOk};
+ghost use Rattle.std.specs.Prelude.{◌≡◌, ◌+◌, ◌≤◌, IsOk, OnOk, OnErr, vec_len, vec_capacity};
+ghost use Rattle.std.specs.Vec.{VecUnchanged};
 ghost use Rattle.call_tape.specs.Fields.{most_readings};
-ghost use Rattle.call_tape.specs.Tapes.{Tape, OneReading, HasAtMost};
-ghost use Rattle.call_tape.specs.Written.{WrittenReads, OnlyWritten};
+ghost use Rattle.call_tape.specs.Laws.{TapeLaws};
+ghost use Rattle.call_tape.specs.Tapes.{HasAtMost, ReadingsAdded};
 
 use crate::fields::{LIMIT, Reader, Reading};
-use std::alloc::{AllocError, Global};
+use std::alloc::AllocError;
 
 /// The most readings that the tape can have: every field has three bytes or more, but for a last one
 /// that is cut short, and a tape above the limit is one fault.
@@ -20,15 +21,23 @@ pub fn most_readings(tape: &[u8]) -> usize
     }
 }
 
-// The readings of the whole tape, in order.
-pub fn readings(tape: &[u8], heap: Global) -> Result<Vec<Reading>, AllocError>
-    ensures all { IfOk result (λ v. Tape tape.now v.items) }
-    ensures once { OneReading }
-    ensures written { WrittenReads }
-    ensures only { OnlyWritten }
+/// Adds the readings of the whole tape behind those that `all` holds, in order. Without memory for
+/// the most that there can be, `all` stays as it is.
+pub fn readings(tape: &[u8], all: &mut Vec<Reading>) -> Result<(), AllocError>
+    ensures added { OnOk result (ReadingsAdded tape.now all.old.items all.new.items) }
+    ensures err { OnErr result (VecUnchanged all.old all.new) }
+    ensures room { vec_len all.old + most_readings tape.now ≤ vec_capacity all.old → IsOk result }
+    ensures capacity { vec_capacity all.old ≤ vec_capacity all.new }
+    ensures laws { TapeLaws }
 {
+    all.reserve(most_readings(tape))?;
     match Reader::new(tape) {
-        Ok(reader) => reader.collect(heap),
-        Err(fault) => Ok(vec![in heap; Reading::from(fault)]?),
+        Ok(reader) => {
+            for reading in reader {
+                all.push(reading).unwrap();
+            }
+        }
+        Err(fault) => all.push(fault.into()).unwrap(),
     }
+    Ok(())
 }

@@ -20,7 +20,8 @@ fn refused(place: usize, refusal: Refusal) -> Reading {
 
 // The tape says just these readings.
 fn says(rt: &HostRuntime, tape: &[u8], expected: &[Reading]) -> Result<(), Fail> {
-    let all = readings(tape, rt.alloc())?;
+    let mut all = Vec::new(rt.alloc());
+    readings(tape, &mut all)?;
     check_eq(all.as_slice(), expected)
 }
 
@@ -113,7 +114,8 @@ fn a_field_cut_at_each_byte(rt: HostRuntime) -> Result<(), Fail> {
 fn the_longest_tape(rt: HostRuntime) -> Result<(), Fail> {
     let mut tape = vec![in rt.alloc(); 0u8; 65_535]?;
     check_eq(most_readings(&tape), 21_845)?;
-    let all = readings(tape.as_slice(), rt.alloc())?;
+    let mut all = Vec::new(rt.alloc());
+    readings(&tape, &mut all)?;
     check_eq(all.len(), 21_845)?;
     check_eq(
         all.last().copied(),
@@ -130,6 +132,27 @@ fn the_most_readings() -> Result<(), Fail> {
     check_eq(most_readings(&[9]), 1)?;
     check_eq(most_readings(&[9, 0, 0]), 1)?;
     check_eq(most_readings(&[9, 0, 0, 9]), 2)
+}
+
+// A vector with just enough room takes the readings where it stands, behind what it holds.
+#[test]
+fn readings_in_room_that_is_lent(rt: HostRuntime) -> Result<(), Fail> {
+    let tape = [9, 0, 0, 32, 0, 0, 9];
+    let first = made(7, Call::Tally);
+    let mut all = Vec::with_capacity(rt.alloc(), 4)?;
+    all.push(first)?;
+    let place = all.as_ptr();
+    readings(&tape, &mut all)?;
+    check_eq(
+        all.as_slice(),
+        &[
+            first,
+            made(0, Call::Tally),
+            refused(3, Refusal::UnknownTag),
+            refused(6, Refusal::FieldCutShort),
+        ],
+    )?;
+    check(all.as_ptr() == place)
 }
 
 #[test]

@@ -1,5 +1,5 @@
 // Calls written and read back, areas with and without room, and tapes judged as a whole.
-use call_tape::{Call, Fault, Opening, Reading, Writer, readings, sound_calls};
+use call_tape::{Call, Fault, Opening, Reading, Writer, faults_of, readings};
 use checks::{check, check_eq};
 use label::StreamLabel;
 use refusal::Refusal;
@@ -37,7 +37,8 @@ fn both_ways(rt: &HostRuntime, call: Call, field: &[u8]) -> Result<(), Fail> {
     let mut writer = Writer::new(&mut area);
     writer.add(call)?;
     check_eq(writer.tape(), field)?;
-    let all = readings(field, rt.alloc())?;
+    let mut all = Vec::new(rt.alloc());
+    readings(field, &mut all)?;
     let reading = Reading {
         place: 0,
         outcome: Ok(call),
@@ -137,8 +138,9 @@ fn the_longest_tape(rt: HostRuntime) -> Result<(), Fail> {
     check_eq(writer.add(Call::Tally), Err(Refusal::AreaTooShort))?;
     let tape = writer.tape();
     check_eq(tape.len(), 65_535)?;
-    let calls = sound_calls(tape, rt.alloc())?.map_err(|_| "faults")?;
-    check_eq(calls.len(), 21_845)?;
+    let mut faults = Vec::new(rt.alloc());
+    check(faults_of(tape, &mut faults)?)?;
+    check(faults.is_empty())?;
     check_eq(&area[65_532..], &[9, 0, 0, 0xEE, 0xEE, 0xEE, 0xEE, 0xEE])
 }
 
@@ -153,13 +155,16 @@ fn the_last_byte_stays_free(rt: HostRuntime) -> Result<(), Fail> {
     check_eq(writer.tape().len(), 65_534)
 }
 
-// A sound tape's calls, written again, give the tape.
+// The tape is sound, and its calls, written again, give it.
 fn again(rt: &HostRuntime, tape: &[u8], expected: &[Call]) -> Result<(), Fail> {
-    let calls = sound_calls(tape, rt.alloc())?.map_err(|_| "faults")?;
-    check_eq(calls.as_slice(), expected)?;
+    check(faults_of(tape, &mut Vec::new(rt.alloc()))?)?;
+    let mut all = Vec::new(rt.alloc());
+    readings(tape, &mut all)?;
+    check_eq(all.len(), expected.len())?;
     let mut area = [0xEE; 64];
     let mut writer = Writer::new(&mut area);
-    for call in &calls {
+    for (reading, call) in all.iter().zip(expected) {
+        check_eq(reading.outcome, Ok(*call))?;
         writer.add(*call)?;
     }
     check_eq(writer.tape(), tape)
@@ -183,11 +188,12 @@ fn sound_tapes(rt: HostRuntime) -> Result<(), Fail> {
     )
 }
 
+// The tape's faults are added behind one that was there.
 fn faults(rt: &HostRuntime, tape: &[u8], expected: &[Fault]) -> Result<(), Fail> {
-    match sound_calls(tape, rt.alloc())? {
-        Ok(_) => Err("no fault")?,
-        Err(all) => check_eq(all.as_slice(), expected),
-    }
+    let mut all = vec![in rt.alloc(); fault(77, Refusal::UnknownTag)]?;
+    check(!faults_of(tape, &mut all)?)?;
+    check_eq(all[0], fault(77, Refusal::UnknownTag))?;
+    check_eq(&all[1..], expected)
 }
 
 fn fault(place: usize, refusal: Refusal) -> Fault {

@@ -1,29 +1,20 @@
 -- A tape that is opened is read to its end, and one that is not is one fault.
-use Rattle.std.proofs.Common.{rules, ℕ, List, Ok, Err, Result, IfOk, Vec, vec_items}
-use Rattle.std.proofs.lemmas.Iterator.{IsCollectResult}
-use Rattle.call_tape.specs.declared.fields.Reader.{Reader}
-use Rattle.call_tape.specs.declared.fields.Reading.{Reading}
-use Rattle.call_tape.specs.Fields.{Opened, Gives}
-use Rattle.call_tape.specs.Tapes.{Tape, OneReading}
-use Rattle.call_tape.specs.Written.{WrittenReads, OnlyWritten}
-use Rattle.call_tape.proofs.Runs.{one_reading, opened_reads}
-use Rattle.call_tape.proofs.Written.{written_reads}
-use Rattle.call_tape.proofs.Judging.{only_written}
+use Rattle.std.proofs.Common.{◌++◌, ap, ◌∙◌}
+use Rattle.call_tape.proofs.Judging.{tape_laws}
+use Rattle.call_tape.proofs.Runs.{opened_reads}
 use Rattle.call_tape.proofs.whole.readings.Goals as goal
 
--- each return owes the theorems too
-beside_theorems : {P : Type 0} → P → record { all : P; once : OneReading; written : WrittenReads; only : OnlyWritten }
-beside_theorems p = record { all = p; once = one_reading; written = written_reads; only = only_written }
+pub returns-in-None-clause-added : goal.returns-in-None-clause-added
+returns-in-None-clause-added c =
+    let l = c.loop-reading in
+    let opened = rw (← c.into_iter-reading-iterator.ensures.into_iter_gives) at c.in-Ok.ensures in
+    (l.yielded, opened_reads c.args.tape.now _ l.yielded opened (_, l.yielded_by, λ _. (c.next.new.self, c.in-None.ensures.steps)), l.invariant.0 ∙ ap (λ xs. xs ++ l.yielded) c.reserve.ensures.items)
 
-collected : {Z E : Type 0} (T : List ℕ) (r : Reader) (o : Result (Vec Reading Z) E) → Opened T (Ok r) → IsCollectResult Gives r o → IfOk o (λ v. Tape T (vec_items v))
-collected T r (Ok v) opened (xs, ran, same) = rw same.0 (opened_reads T r xs opened ran)
-collected T r (Err e) opened _ = tt
+pub returns-in_err-reserve-clause-laws : goal.returns-in_err-reserve-clause-laws
+returns-in_err-reserve-clause-laws c = tape_laws
 
-pub returns-in-Ok : goal.returns-in-Ok
-returns-in-Ok c = beside_theorems (collected _ c.in-Ok.reader _ c.in-Ok.ensures c.collect.ensures.ran)
+pub returns-in-None-clause-laws : goal.returns-in-None-clause-laws
+returns-in-None-clause-laws c = tape_laws
 
-pub returns-in_err-vec-in-Err : goal.returns-in_err-vec-in-Err
-returns-in_err-vec-in-Err c = beside_theorems (search rules)
-
-pub returns-in_ok-vec-in-Err : goal.returns-in_ok-vec-in-Err
-returns-in_ok-vec-in-Err c = beside_theorems (search rules)
+pub returns-in-Err-clause-laws : goal.returns-in-Err-clause-laws
+returns-in-Err-clause-laws c = tape_laws
