@@ -116,6 +116,11 @@ sound_faultless T cs rs (l, small, is) h =
     let w : Tape T (placed 0 cs) = rw is (written_reads cs small (rw (← is) l)) in
     ap faults_in (one_reading T rs (placed 0 cs) h w) ∙ placed_faultless 0 cs
 
+pub sound_said : (T : List ℕ) (cs : List Call) (rs : List Reading) → Sound T cs → Tape T rs → calls_in rs ≡ cs
+sound_said T cs rs (l, small, is) h =
+    let w : Tape T (placed 0 cs) = rw is (written_reads cs small (rw (← is) l)) in
+    ap calls_in (one_reading T rs (placed 0 cs) h w) ∙ calls_placed 0 cs
+
 pub written_again : WrittenAgain
 written_again = record { accepted = accepted; same = same }
   where

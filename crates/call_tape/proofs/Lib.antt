@@ -6,4 +6,5 @@ pub mod Written
 pub mod Writing
 pub mod Sorting
 pub mod Cutting
+pub mod Leading
 pub mod Judging

@@ -39,19 +39,17 @@ fn encode(rt: &HostRuntime, text: &[u8]) -> anyhow::Result<()> {
 
 // Writes the text of a sound tape, or nothing but the faults of another.
 fn decode(rt: &HostRuntime, tape: &[u8]) -> anyhow::Result<()> {
-    match text_of_tape(tape, rt.alloc())? {
-        Ok(text) => {
-            rt.stdout().write_all(text.as_bytes())?;
-            eprintln!(rt; "bytes of text: {}", text.len())?;
-            Ok(())
+    let mut text = String::new(rt.alloc());
+    let mut faults = Vec::new(rt.alloc());
+    if !text_of_tape(tape, &mut text, &mut faults)? {
+        for fault in &faults {
+            eprintln!(rt; "{fault}")?;
         }
-        Err(faults) => {
-            for fault in &faults {
-                eprintln!(rt; "{fault}")?;
-            }
-            bail!("faults on the tape: {}; no text is written", faults.len())
-        }
+        bail!("faults on the tape: {}; no text is written", faults.len())
     }
+    rt.stdout().write_all(text.as_bytes())?;
+    eprintln!(rt; "bytes of text: {}", text.len())?;
+    Ok(())
 }
 
 fn main(rt: HostRuntime) -> anyhow::Result<()> {

@@ -1,6 +1,7 @@
 -- Lemmas on words, lines and texts.
 pub mod Reading
-pub mod Text
+pub mod Lengths
+pub mod Wording
 pub mod Sayings
 pub mod Firsts
 pub mod Adding

@@ -12,7 +12,8 @@ use Rattle.call_tape.specs.declared.calls.Call.TheVariants.{Write, Drop, Spoil, 
 use Rattle.call_tape.specs.Calls.{Small}
 use Rattle.tape_text.specs.Numbers.{Number, Numbers}
 use Rattle.tape_text.specs.Calls.{word_of, values_of, limits_of, spaced, call_text, Says}
-use Rattle.tape_text.specs.Lines.{words, said, end, call, SaidReads}
+use Rattle.tape_text.specs.Lines.{words, said, end, call, SaidReads, SayingLaws}
+use Rattle.tape_text.proofs.Once.{one_saying}
 
 -- each byte is above m
 abbrev pub Above : ℕ → List ℕ → Type 0
@@ -151,3 +152,6 @@ first_line x rest h =
 pub said_reads : SaidReads
 said_reads [] h = end
 said_reads (c ∷ cs) h = rw (first_line (call_text c) (said cs) (text_above c h.0)) (call (call_text c) (lines (said cs)) c cs (says_own c h.0) (said_reads cs h.1))
+
+pub saying_laws : SayingLaws
+saying_laws = record { reads = said_reads; once = one_saying }

@@ -4,6 +4,7 @@
 --   said cs          the text of the calls cs, a line for each
 --   OneSaying        lines say one list of calls at most
 --   SaidReads        the lines of the text of calls say those calls
+--   SayingLaws       both, which hold whatever is said
 -- Assumes nothing.
 use Rattle.std.specs.Prelude.{◌≡◌, ℕ, ◌==◌, List, [], ◌∷◌, ◌++◌, length, not, filter}
 use Rattle.std.specs.List.{slice_split}
@@ -30,3 +31,7 @@ OneSaying = (ls : List (List ℕ)) (cs ds : List Call) → LinesSay ls cs → Li
 
 abbrev pub SaidReads : Type 0
 SaidReads = (cs : List Call) → AllSmall cs → LinesSay (lines (said cs)) cs
+
+pub record SayingLaws : Type 0 where
+  pub reads : SaidReads
+  pub once : OneSaying

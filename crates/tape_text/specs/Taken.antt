@@ -6,16 +6,20 @@
 --   AllTaped text A n B   the lines of the text are a tape of n bytes in the area A, which is left as B
 --   Taped text A r B    r is the length of the tape of the text in the area A, or why there is none, and A is left as B
 --   OneTaping           a text gives one tape or one fault, and leaves one area
---   Worded T r          r is the text of the tape T, or all its faults
+--   most_text T         the most bytes of text that the tape T can have
+--   CallsSaid T x y     y is x, and behind it the text of the calls on the tape T
+--   Worded T x fs y gs b   b says that T is sound, and y is x and its text; or that it is not, and gs is fs and its faults
 --   GivesBack           the text of a sound tape's calls gives that tape, where the area has room for it
 -- Assumes nothing.
-use Rattle.std.specs.Prelude.{◌≡◌, ℕ, ◌+◌, ◌<◌, ◌≤◌, ◌⊎◌, List, [], ◌∷◌, ◌++◌, length, take, Ok, Err, Result, ⊤, Vec, String, string_bytes}
+use Rattle.std.specs.Prelude.{◌≡◌, ℕ, ◌+◌, ◌*◌, ◌<◌, ◌≤◌, ◌⊎◌, List, [], ◌∷◌, ◌++◌, length, take, Ok, Err, Result, Bool, true, false, ⊤}
 use Rattle.std.specs.Str.{IsUtf8}
 use Rattle.std.specs.Str.Lines.{lines}
 use Rattle.utf8.specs.Lines.{line_of_fault}
 use Rattle.call_tape.specs.declared.calls.Call.{Call}
 use Rattle.call_tape.specs.declared.faults.Fault.{Fault}
-use Rattle.call_tape.specs.Soundness.{Sound, Unsound}
+use Rattle.call_tape.specs.declared.fields.Reading.{Reading}
+use Rattle.call_tape.specs.Soundness.{Sound, Unsound, calls_in}
+use Rattle.call_tape.specs.Tapes.{Tape}
 use Rattle.call_tape.specs.Written.{written}
 use Rattle.call_tape.specs.Writing.{room, Holds}
 use Rattle.tape_text.specs.declared.complaints.Complaint.{Complaint}
@@ -56,10 +60,17 @@ Taped text A (Err f) B = (NoText text f × (B ≡ A)) ⊎ (IsUtf8 text × FirstB
 abbrev pub OneTaping : Type 0
 OneTaping = (text A B C : List ℕ) (r s : Result ℕ LineFault) → Taped text A r B → Taped text A s C → (r ≡ s) × (B ≡ C)
 
--- the text of its calls; or its faults, of which the first is named
-abbrev pub Worded : {A : Type 0} → List ℕ → Result (String A) (Vec Fault A) → Type 0
-Worded T (Ok s) = (cs : List Call) × Sound T cs × (string_bytes s ≡ said cs)
-Worded T (Err v) = Unsound T v.items
+-- a call's line has three bytes at most for each byte of its field
+abbrev pub most_text : List ℕ → ℕ
+most_text T = 3 * length T
+
+abbrev pub CallsSaid : List ℕ → List ℕ → List ℕ → Type 0
+CallsSaid T x y = (rs : List Reading) × Tape T rs × (y ≡ x ++ said (calls_in rs))
+
+-- what is not added to is as it was; of the faults the first is named
+abbrev pub Worded : List ℕ → List ℕ → List Fault → List ℕ → List Fault → Bool → Type 0
+Worded T x fs y gs true = ((cs : List Call) × Sound T cs × (y ≡ x ++ said cs)) × (gs ≡ fs)
+Worded T x fs y gs false = (y ≡ x) × ((all : List Fault) × (gs ≡ fs ++ all) × Unsound T all)
 
 abbrev pub GivesBack : Type 0
 GivesBack = (T A B : List ℕ) (cs : List Call) (r : Result ℕ LineFault) → Sound T cs → length T ≤ length A → Taped (said cs) A r B → (r ≡ Ok (length T)) × (take (length T) B ≡ T)

@@ -4,8 +4,10 @@
 mod complaints;
 mod lines;
 mod numbers;
+mod text;
 mod whole;
 
 pub use complaints::{Complaint, LineFault};
-pub use lines::{CallText, call_in};
-pub use whole::{tape_of, text_of, text_of_tape};
+pub use lines::call_in;
+pub use text::text_of_tape;
+pub use whole::tape_of;

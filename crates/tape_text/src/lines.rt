@@ -1,50 +1,16 @@
 // A line of the text, as the call that it says.
-ghost use Rattle.std.specs.Prelude.{[], ◌∷◌, Some, MatchResult, ◌≡◌, ◌≤◌, take};
+ghost use Rattle.std.specs.Prelude.{[], ◌∷◌, MatchResult, ◌≡◌, ◌≤◌, take};
 ghost use Rattle.tape_text.specs.Numbers.{texts, ReadsAll};
-ghost use Rattle.tape_text.specs.Calls.{number_limits, label_limits, opening_limits, label_values, opening_values, call_text, Says, Wrong, LineMeans, OneMeaning};
+ghost use Rattle.tape_text.specs.Calls.{number_limits, label_limits, opening_limits, label_values, opening_values, Says, Wrong, LineMeans, OneMeaning};
 ghost use Rattle.tape_text.specs.Lines.{words};
 
 use crate::complaints::Complaint;
 use crate::numbers::{u8_in, u16_in, u32_in};
 use call_tape::{Call, Opening};
 use label::StreamLabel;
-use std::fmt;
-use std::fmt::{Display, Formatter};
 
 // No line needs more words to be judged than those of an opening, and one.
 const MOST_WORDS: usize = 7;
-
-// A call as the text of its line.
-#[derive(Clone, Copy, PartialEq, Eq, Debug)]
-pub struct CallText(pub Call);
-
-impl Display for CallText {
-    ghost output = { λ t. Some (call_text t.0) };
-
-    fn fmt<W: fmt::Write>(&self, f: &mut Formatter<W>) -> fmt::Result {
-        match self.0 {
-            Call::Write(n) => write!(f, "write {n}"),
-            Call::Drop(n) => write!(f, "drop {n}"),
-            Call::Spoil(n) => write!(f, "spoil {n}"),
-            Call::Read(n) => write!(f, "read {n}"),
-            Call::Trim(n) => write!(f, "trim {n}"),
-            Call::Open(
-                Opening {
-                    stream: s,
-                    first,
-                    length,
-                },
-            ) => write!(
-                f,
-                "open {} {} {} {first} {length}",
-                s.port, s.channel, s.session
-            ),
-            Call::Append(s) => write!(f, "append {} {} {}", s.port, s.channel, s.session),
-            Call::Close(s) => write!(f, "close {} {} {}", s.port, s.channel, s.session),
-            Call::Tally => write!(f, "tally"),
-        }
-    }
-}
 
 // The number of a call that takes one.
 #[tactic(auto, using(crate::proofs::Reading::miscounted))]

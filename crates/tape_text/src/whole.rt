@@ -1,39 +1,13 @@
-// A whole text: the calls of its lines as a tape, and the text of calls.
-ghost use Rattle.std.specs.Prelude.{◌≡◌, ℕ, List, IfOk, MatchResult, string_bytes};
+// A whole text: the calls of its lines as a tape.
+ghost use Rattle.std.specs.Prelude.{◌≡◌, ℕ, List, MatchResult};
 ghost use Rattle.std.specs.Str.{IsUtf8};
 ghost use Rattle.call_tape.specs.Writing.{Holds};
 ghost use Rattle.call_tape.specs.declared.calls.Call.{Call as CallValue};
-ghost use Rattle.tape_text.specs.Lines.{said, SaidReads, OneSaying};
-ghost use Rattle.tape_text.specs.Taken.{NoText, LineAdded, Taped, OneTaping, Worded, GivesBack};
+ghost use Rattle.tape_text.specs.Taken.{NoText, LineAdded, Taped, OneTaping, GivesBack};
 
 use crate::complaints::{Complaint, LineFault};
-use crate::lines::{CallText, call_in};
-use call_tape::{Call, Fault, Writer, sound_calls};
-use std::alloc::{AllocError, Global};
-
-// The text of the calls, a line for each.
-pub fn text_of(calls: &[Call], heap: Global) -> Result<String, AllocError>
-    ensures text { IfOk result (λ text. string_bytes text ≡ said calls.now) }
-    ensures reads { SaidReads }
-    ensures once { OneSaying }
-{
-    let mut text = String::new(heap);
-    for call in calls {
-        let call = CallText(*call);
-        writeln!(text, "{call}")?;
-    }
-    Ok(text)
-}
-
-// The text of a sound tape, or every fault of another.
-pub fn text_of_tape(tape: &[u8], heap: Global) -> Result<Result<String, Vec<Fault>>, AllocError>
-    ensures { IfOk result (Worded tape.now) }
-{
-    Ok(match sound_calls(tape, heap)? {
-        Ok(calls) => Ok(text_of(&calls, heap)?),
-        Err(faults) => Err(faults),
-    })
-}
+use crate::lines::call_in;
+use call_tape::Writer;
 
 fn text_in(bytes: &[u8]) -> Result<&str, LineFault>
     ensures { MatchResult result (λ text. (text.now ≡ bytes.now) × IsUtf8 bytes.now) (NoText bytes.now) }

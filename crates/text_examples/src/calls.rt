@@ -1,9 +1,9 @@
 // Each call, from its text to its field and back, at the edges of its numbers.
 use call_tape::{Call, Opening};
-use checks::check_eq;
+use checks::{check, check_eq};
 use label::StreamLabel;
 use std::test::*;
-use tape_text::{tape_of, text_of};
+use tape_text::{call_in, tape_of, text_of_tape};
 
 const LOWEST: StreamLabel = StreamLabel {
     port: 0,
@@ -17,13 +17,15 @@ const HIGHEST: StreamLabel = StreamLabel {
     session: 255,
 };
 
-// The line is the text of the call, and its tape is this field.
+// The line says the call, its tape is this field, and the field's text is the line.
 fn both_ways(rt: &HostRuntime, line: &str, call: Call, field: &[u8]) -> Result<(), Fail> {
-    let text = text_of(&[call], rt.alloc())?;
-    check_eq(text.as_str(), line)?;
+    check_eq(call_in(line.trim_end()), Ok(Some(call)))?;
     let mut area = [0; 16];
     let count = tape_of(line.as_bytes(), &mut area)?;
-    check_eq(area.get(..count), Some(field))
+    check_eq(area.get(..count), Some(field))?;
+    let mut text = String::new(rt.alloc());
+    check(text_of_tape(field, &mut text, &mut Vec::new(rt.alloc()))?)?;
+    check_eq(text.as_str(), line)
 }
 
 #[test]

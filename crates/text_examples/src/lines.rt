@@ -1,6 +1,6 @@
 // Lines and blanks, and texts and tapes that come round again.
 use call_tape::Fault;
-use checks::check_eq;
+use checks::{check, check_eq};
 use refusal::Refusal;
 use std::test::*;
 use tape_text::{tape_of, text_of_tape};
@@ -38,14 +38,20 @@ fn a_text_that_says_nothing(rt: HostRuntime) -> Result<(), Fail> {
 }
 
 fn sound_text(rt: &HostRuntime, tape: &[u8]) -> Result<String, Fail> {
-    Ok(text_of_tape(tape, rt.alloc())?.ok().ok_or("a fault")?)
+    let mut text = String::new(rt.alloc());
+    let mut faults = Vec::new(rt.alloc());
+    check(text_of_tape(tape, &mut text, &mut faults)?)?;
+    check(faults.is_empty())?;
+    Ok(text)
 }
 
 #[test]
 fn a_tape_with_faults_has_no_text(rt: HostRuntime) -> Result<(), Fail> {
-    let faults = text_of_tape(&[9, 0, 0, 10, 0, 0, 9, 0], rt.alloc())?
-        .err()
-        .ok_or("a text")?;
+    let mut text = String::new(rt.alloc());
+    let mut faults = Vec::new(rt.alloc());
+    let tape = [9, 0, 0, 10, 0, 0, 9, 0];
+    check(!text_of_tape(&tape, &mut text, &mut faults)?)?;
+    check(text.is_empty())?;
     let unknown = Fault {
         place: 3,
         refusal: Refusal::UnknownTag,

@@ -1,8 +1,8 @@
-// The area's end, and the longest tape.
+// The area's end, memory that is lent, and the longest tape.
 use checks::{check, check_eq};
 use std::alloc::{AllocError, Global};
 use std::test::*;
-use tape_text::{Complaint, LineFault, tape_of};
+use tape_text::{Complaint, LineFault, tape_of, text_of_tape};
 
 fn no_room(line: usize) -> Option<LineFault> {
     let complaint = Complaint::NoRoom;
@@ -29,6 +29,20 @@ fn an_area_one_byte_short() -> Result<(), Fail> {
     check_eq(kept, [7; 9])?;
     let mut empty = [0; 0];
     check_eq(tape_of(text, &mut empty).err(), no_room(1))
+}
+
+// A text and a vector with just enough room stay where they stand, and keep what they hold.
+#[test]
+fn text_in_room_that_is_lent(rt: HostRuntime) -> Result<(), Fail> {
+    let tape = [9, 0, 0, 7, 0, 4, 1, 2, 3, 4];
+    let mut text = String::with_capacity(rt.alloc(), 32)?;
+    text.push_str("> ")?;
+    let mut faults = Vec::with_capacity(rt.alloc(), 4)?;
+    let place = text.as_str().as_ptr();
+    check(text_of_tape(&tape, &mut text, &mut faults)?)?;
+    check_eq(text.as_str(), "> tally\nappend 1 515 4\n")?;
+    check(text.as_str().as_ptr() == place)?;
+    check(faults.is_empty())
 }
 
 // The text of this many tallies, whose fields have 3 bytes.
