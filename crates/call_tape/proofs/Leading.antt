@@ -1,12 +1,12 @@
 -- How far one reading leads.
-use Rattle.std.proofs.Common.{◌≡◌, ℕ, ◌+◌, ◌≤◌, List, length, drop, Some, None, Ok, Err, Result, sym, ap, ◌∙◌, inl, inr, arith, length-drop}
+use Rattle.std.proofs.Common.{◌≡◌, ℕ, ◌+◌, ◌≤◌, List, length, drop, Some, Ok, Err, Result, sym, ap, ◌∙◌, inl, inr, arith, length-drop}
 use Rattle.std.proofs.lemmas.List.{length-take-le}
 use Rattle.refusal.specs.declared.Refusal.{Refusal}
 use Rattle.refusal.specs.declared.Refusal.TheVariants.{FieldCutShort}
 use Rattle.call_tape.specs.declared.calls.Call.{Call}
 use Rattle.call_tape.specs.declared.fields.Reading.{Reading}
 use Rattle.call_tape.specs.Calls.{contents_of, Small, decoded, Decodes, call}
-use Rattle.call_tape.specs.Fields.{tag_at, size_at, contents_at, Whole, Next}
+use Rattle.call_tape.specs.Fields.{tag_at, size_at, contents_at, Next}
 use Rattle.call_tape.proofs.Cutting.{Bytes, bytes_part}
 use Rattle.call_tape.proofs.Decoding.{decodes}
 

@@ -11,8 +11,8 @@ use crate::whole::most_readings;
 use std::alloc::AllocError;
 
 /// Adds every fault of the tape behind those that `faults` holds, in order, and answers whether the
-/// tape is sound, that is, has none. Without memory for the most that there can be, `faults` stays
-/// as it is.
+/// tape is sound, that is, has none. With room for `most_readings` it never fails; without that room
+/// and without memory, `faults` stays as it is.
 pub fn faults_of(tape: &[u8], faults: &mut Vec<Fault>) -> Result<bool, AllocError>
     ensures judged { IfOk result (FaultsAdded tape.now faults.old.items faults.new.items) }
     ensures err { OnErr result (VecUnchanged faults.old faults.new) }

@@ -21,8 +21,8 @@ pub fn most_readings(tape: &[u8]) -> usize
     }
 }
 
-/// Adds the readings of the whole tape behind those that `all` holds, in order. Without memory for
-/// the most that there can be, `all` stays as it is.
+/// Adds the readings of the whole tape behind those that `all` holds, in order. With room for
+/// `most_readings` it never fails; without that room and without memory, `all` stays as it is.
 pub fn readings(tape: &[u8], all: &mut Vec<Reading>) -> Result<(), AllocError>
     ensures added { OnOk result (ReadingsAdded tape.now all.old.items all.new.items) }
     ensures err { OnErr result (VecUnchanged all.old all.new) }

@@ -2,10 +2,10 @@
 #![tactic(auto)]
 
 use anyhow::{anyhow, bail};
-use call_tape::LIMIT;
+use call_tape::{LIMIT, most_readings};
 use std::env;
 use std::io::{Read, Write};
-use tape_text::{tape_of, text_of_tape};
+use tape_text::{most_text, tape_of, text_of_tape};
 
 const USAGE: &str = "usage: tape encode < TEXT > TAPE, or tape decode < TAPE > TEXT";
 
@@ -39,9 +39,11 @@ fn encode(rt: &HostRuntime, text: &[u8]) -> anyhow::Result<()> {
 
 // Writes the text of a sound tape, or nothing but the faults of another.
 fn decode(rt: &HostRuntime, tape: &[u8]) -> anyhow::Result<()> {
-    let mut text = String::new(rt.alloc());
-    let mut faults = Vec::new(rt.alloc());
-    if !text_of_tape(tape, &mut text, &mut faults)? {
+    let mut text = String::with_capacity(rt.alloc(), most_text(tape))?;
+    let mut faults = Vec::with_capacity(rt.alloc(), most_readings(tape))?;
+    // With that much room it cannot fail.
+    let sound = text_of_tape(tape, &mut text, &mut faults).unwrap();
+    if !sound {
         for fault in &faults {
             eprintln!(rt; "{fault}")?;
         }

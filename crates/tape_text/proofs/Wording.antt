@@ -1,12 +1,13 @@
 -- The text of a tape's calls, reading by reading.
-use Rattle.std.proofs.Common.{◌≡◌, ℕ, ◌+◌, ◌*◌, ◌≤◌, List, [], ◌∷◌, ◌++◌, length, Bool, true, false, Some, Ok, Err, ap, ◌∙◌, arith, append_assoc, append-nil, refl, sym}
+use Rattle.std.proofs.Common.{◌≡◌, ℕ, ◌+◌, ◌*◌, ◌<◌, ◌≤◌, List, [], ◌∷◌, ◌++◌, length, Bool, true, false, Some, Ok, Err, ap, ◌∙◌, arith, append_assoc, append-nil, length-append, refl, sym}
 use Rattle.refusal.specs.declared.Refusal.{Refusal}
 use Rattle.call_tape.specs.declared.calls.Call.{Call}
 use Rattle.call_tape.specs.declared.faults.Fault.{Fault}
 use Rattle.call_tape.specs.declared.fields.Reader.{Reader}
 use Rattle.call_tape.specs.declared.fields.Reading.{Reading}
-use Rattle.call_tape.specs.Fields.{Next, Gives, Opened}
+use Rattle.call_tape.specs.Fields.{most_bytes, Next, Gives, Opened}
 use Rattle.call_tape.specs.Soundness.{calls_in, FaultsAdded}
+use Rattle.call_tape.specs.Written.{encoded, written, AllSmall}
 use Rattle.call_tape.proofs.Cutting.{Bytes}
 use Rattle.call_tape.proofs.Judging.{sound_said}
 use Rattle.call_tape.proofs.Leading.{leads_on, call_leads}
@@ -14,7 +15,7 @@ use Rattle.call_tape.proofs.Runs.{unopened_reads}
 use Rattle.call_tape.proofs.Sorting.{call_more, no_call_more}
 use Rattle.tape_text.specs.Calls.{call_text}
 use Rattle.tape_text.specs.Lines.{said}
-use Rattle.tape_text.specs.Taken.{CallsSaid, Worded}
+use Rattle.tape_text.specs.Taken.{HasTextWithin, CallsSaid, Worded}
 use Rattle.tape_text.proofs.Lengths.{few_bytes}
 use Rattle.tape_text.proofs.Sayings.{said_append}
 
@@ -38,6 +39,16 @@ module _ (T : List ℕ) (r s : Reader) (x : Reading) (gives : Gives r (Some x) s
   -- three bytes for each byte of its field are room for the line of a call
   pub line_fits : (c : Call) → Bytes T → x.outcome ≡ Ok c → length (call_text c) + 1 + 3 * r.place ≤ 3 * s.place
   line_fits c bytes is = let own = call_leads T r.place x s.place c bytes next is in omega (arith, own.1, few_bytes c own.0)
+
+said_within : (cs : List Call) → AllSmall cs → length (said cs) ≤ 3 * length (written cs)
+said_within [] h = omega arith
+said_within (c ∷ cs) h = omega (arith, length-append (call_text c) (10 ∷ said cs), length-append (encoded c) (written cs), few_bytes c h.0, said_within cs h.1)
+
+pub text_within : (T : List ℕ) → HasTextWithin T (3 * length T)
+text_within T cs (l, small, is) = omega (arith, ap length is, said_within cs small)
+
+pub no_text_of_longer : (T : List ℕ) → most_bytes < length T → HasTextWithin T 0
+no_text_of_longer T h cs sound = absurd (omega (arith, h, sound.0))
 
 -- a tape that is not opened says no call
 pub unopened_said : (T : List ℕ) (f : Fault) (x : List ℕ) → Opened T (Err f) → CallsSaid T x x

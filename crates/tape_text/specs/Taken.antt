@@ -7,17 +7,19 @@
 --   Taped text A r B    r is the length of the tape of the text in the area A, or why there is none, and A is left as B
 --   OneTaping           a text gives one tape or one fault, and leaves one area
 --   most_text T         the most bytes of text that the tape T can have
+--   HasTextWithin T n   where T is sound, its text has no more than n bytes
 --   CallsSaid T x y     y is x, and behind it the text of the calls on the tape T
 --   Worded T x fs y gs b   b says that T is sound, and y is x and its text; or that it is not, and gs is fs and its faults
 --   GivesBack           the text of a sound tape's calls gives that tape, where the area has room for it
 -- Assumes nothing.
-use Rattle.std.specs.Prelude.{◌≡◌, ℕ, ◌+◌, ◌*◌, ◌<◌, ◌≤◌, ◌⊎◌, List, [], ◌∷◌, ◌++◌, length, take, Ok, Err, Result, Bool, true, false, ⊤}
+use Rattle.std.specs.Prelude.{◌≡◌, ℕ, ◌+◌, ◌*◌, ◌<◌, ◌≤◌, ◌⊎◌, List, [], ◌∷◌, ◌++◌, length, take, Ok, Err, Result, Bool, true, false, ⊤, nat_le, if◌then◌else◌}
 use Rattle.std.specs.Str.{IsUtf8}
 use Rattle.std.specs.Str.Lines.{lines}
 use Rattle.utf8.specs.Lines.{line_of_fault}
 use Rattle.call_tape.specs.declared.calls.Call.{Call}
 use Rattle.call_tape.specs.declared.faults.Fault.{Fault}
 use Rattle.call_tape.specs.declared.fields.Reading.{Reading}
+use Rattle.call_tape.specs.Fields.{most_bytes}
 use Rattle.call_tape.specs.Soundness.{Sound, Unsound, calls_in}
 use Rattle.call_tape.specs.Tapes.{Tape}
 use Rattle.call_tape.specs.Written.{written}
@@ -60,9 +62,12 @@ Taped text A (Err f) B = (NoText text f × (B ≡ A)) ⊎ (IsUtf8 text × FirstB
 abbrev pub OneTaping : Type 0
 OneTaping = (text A B C : List ℕ) (r s : Result ℕ LineFault) → Taped text A r B → Taped text A s C → (r ≡ s) × (B ≡ C)
 
--- a call's line has three bytes at most for each byte of its field
+-- a call's line has three bytes at most for each byte of its field; a longer tape is not sound
 abbrev pub most_text : List ℕ → ℕ
-most_text T = 3 * length T
+most_text T = if nat_le (length T) most_bytes then 3 * length T else 0
+
+abbrev pub HasTextWithin : List ℕ → ℕ → Type 0
+HasTextWithin T n = (cs : List Call) → Sound T cs → length (said cs) ≤ n
 
 abbrev pub CallsSaid : List ℕ → List ℕ → List ℕ → Type 0
 CallsSaid T x y = (rs : List Reading) × Tape T rs × (y ≡ x ++ said (calls_in rs))

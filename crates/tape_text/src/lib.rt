@@ -9,5 +9,5 @@ mod whole;
 
 pub use complaints::{Complaint, LineFault};
 pub use lines::call_in;
-pub use text::text_of_tape;
+pub use text::{most_text, text_of_tape};
 pub use whole::tape_of;

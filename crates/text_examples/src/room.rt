@@ -2,7 +2,7 @@
 use checks::{check, check_eq};
 use std::alloc::{AllocError, Global};
 use std::test::*;
-use tape_text::{Complaint, LineFault, tape_of, text_of_tape};
+use tape_text::{Complaint, LineFault, most_text, tape_of, text_of_tape};
 
 fn no_room(line: usize) -> Option<LineFault> {
     let complaint = Complaint::NoRoom;
@@ -35,6 +35,7 @@ fn an_area_one_byte_short() -> Result<(), Fail> {
 #[test]
 fn text_in_room_that_is_lent(rt: HostRuntime) -> Result<(), Fail> {
     let tape = [9, 0, 0, 7, 0, 4, 1, 2, 3, 4];
+    check_eq(most_text(&tape), 30)?;
     let mut text = String::with_capacity(rt.alloc(), 32)?;
     text.push_str("> ")?;
     let mut faults = Vec::with_capacity(rt.alloc(), 4)?;
@@ -54,11 +55,23 @@ fn tallies(count: usize, heap: Global) -> Result<String, AllocError> {
     Ok(text)
 }
 
+// An append of large numbers takes as much text as any byte can.
+#[test]
+fn the_most_text(rt: HostRuntime) -> Result<(), Fail> {
+    let tape = [7, 0, 4, 255, 255, 255, 255];
+    let mut text = String::new(rt.alloc());
+    check(text_of_tape(&tape, &mut text, &mut Vec::new(rt.alloc()))?)?;
+    check_eq(text.as_str(), "append 255 65535 255\n")?;
+    check_eq(text.len(), most_text(&tape))
+}
+
 #[test]
 fn the_longest_tape(rt: HostRuntime) -> Result<(), Fail> {
     let mut area = vec![in rt.alloc(); 0u8; 65_600]?;
     let longest = tallies(21_845, rt.alloc())?;
     check_eq(tape_of(longest.as_bytes(), &mut area)?, 65_535)?;
+    check_eq(most_text(&area[..65_535]), 196_605)?;
+    check_eq(most_text(&area[..65_536]), 0)?;
     let longer = tallies(21_846, rt.alloc())?;
     check_eq(tape_of(longer.as_bytes(), &mut area).err(), no_room(21_846))
 }
