@@ -134,14 +134,13 @@ fn the_most_readings() -> Result<(), Fail> {
     check_eq(most_readings(&[9, 0, 0, 9]), 2)
 }
 
-// A vector with just enough room takes the readings where it stands, behind what it holds.
+// A vector with just enough room takes the readings behind what it holds, and does not grow.
 #[test]
 fn readings_in_room_that_is_lent(rt: HostRuntime) -> Result<(), Fail> {
     let tape = [9, 0, 0, 32, 0, 0, 9];
     let first = made(7, Call::Tally);
     let mut all = Vec::with_capacity(rt.alloc(), 4)?;
     all.push(first)?;
-    let place = all.as_ptr();
     readings(&tape, &mut all)?;
     check_eq(
         all.as_slice(),
@@ -152,7 +151,7 @@ fn readings_in_room_that_is_lent(rt: HostRuntime) -> Result<(), Fail> {
             refused(6, Refusal::FieldCutShort),
         ],
     )?;
-    check(all.as_ptr() == place)
+    check_eq(all.capacity(), 4)
 }
 
 #[test]
