@@ -1,2 +1,2 @@
--- From a fresh service to the rules alone.
+-- From a player to the card.
 pub mod Listing

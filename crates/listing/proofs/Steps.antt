@@ -1,125 +1,180 @@
--- Each reading adds its line, and the service lives on.
-use Rattle.std.proofs.Common.{◌≡◌, ℕ, true, List, [], ◌∷◌, ◌++◌, Some, Ok, Err, Result, sym, refl, ap, ◌∙◌, subst, append_assoc}
-use Rattle.std.proofs.lemmas.Bool.{true≢false}
-use Rattle.std.specs.Iterator.{DrainsIf}
+-- What one call of a tape adds to the log.
+use Rattle.std.proofs.Common.{◌≡◌, ℕ, List, [], ◌∷◌, ◌++◌, Some, None, Ok, Option, Result, IsSome, sym, refl, ap, ◌∙◌, subst, inl, inr, ⊎_elim, ◌⊎◌}
+use Rattle.std.proofs.Props.{props}
+use Rattle.std.proofs.Math.Logic.{∥∥₁_elim, ∥∥₁_map}
+use Rattle.std.proofs.lemmas.Bool.{false≢true}
+use Rattle.std.proofs.lemmas.Option.{none-some}
 use Rattle.refusal.specs.declared.Refusal.{Refusal}
 use Rattle.label.specs.declared.stream.StreamLabel.{StreamLabel}
+use Rattle.label.specs.declared.Label.{Ghosts as Label}
 use Rattle.map.specs.declared.Map.{Ghosts}
 use Rattle.rules.specs.declared.Entry.{Entry}
-use Rattle.rules.specs.declared.Position.{Position}
-use Rattle.rules.specs.Calls.{Answer}
-use Rattle.rules.specs.Calls.Answer.{refused}
-use Rattle.rules.specs.History.{History, accepted}
-use Rattle.entry.specs.declared.Ending.{Ending}
-use Rattle.entry.specs.declared.Ending.TheVariants.{Commit, Abandon, Condemn}
-use Rattle.blocks.specs.declared.state.Blocks.{Blocks}
-use Rattle.blocks.proofs.Fixed.{fixed_none, fixed_more, reads_fixed, trims_fixed, passes_fixed}
-use Rattle.blocks.specs.Service.{Lived, Fixed, Through, Passed, Passes, finished}
-use Rattle.call_tape.specs.declared.calls.Call.{Call}
-use Rattle.call_tape.specs.declared.calls.Call.TheVariants.{Write, Drop, Spoil, Read, Trim, Open, Append, Close, Tally as CallTally}
-use Rattle.call_tape.specs.declared.faults.Fault.{Fault}
-use Rattle.call_tape.specs.declared.fields.Reader.{Reader}
-use Rattle.call_tape.specs.declared.fields.Reading.{Reading}
-use Rattle.call_tape.specs.Fields.{Opened, Gives}
-use Rattle.call_tape.proofs.Runs.{opened_reads, unopened_reads}
-use Rattle.listing.specs.declared.lines.Line.{Line}
+use Rattle.rules.specs.declared.Position.{Position as Spot}
+use Rattle.rules.specs.declared.GrantId.{GrantId}
+use Rattle.rules.specs.declared.Call.{Call}
+use Rattle.rules.specs.declared.Call.TheVariants as call
+use Rattle.rules.specs.declared.Answer.{Answer}
+use Rattle.rules.specs.declared.Answer.TheVariants.{Granted, Block, Refused}
+use Rattle.rules.specs.declared.Answer.TheVariants as answer
+use Rattle.rules.specs.Calls.{Limits}
+use Rattle.rules.specs.History.{History, Ledger, ledger}
+use Rattle.rules.specs.Lives.{Streams, streams, InHand, ended_grant}
+use Rattle.rules.specs.Right.{reasons, Told, RightAnswer}
+use Rattle.rules.specs.Promise.{AllAnswered}
+use Rattle.rules.proofs.Places.{some_one, some_none}
+use Rattle.rules.proofs.Rights.{reasoned}
+use Rattle.rules.proofs.Owned.{rights_hand}
+use Rattle.rules.proofs.Whole.{answered_right}
+use Rattle.service.specs.declared.entry.Ending.{Ending}
+use Rattle.service.specs.declared.entry.Ending.TheVariants.{Commit, Abandon, Condemn}
+use Rattle.service.specs.Service.{end_call}
+use Rattle.service.specs.Promised.{Promised}
+use Rattle.player.specs.declared.command.Command.{Command}
+use Rattle.player.specs.declared.command.Command.TheVariants as command
+use Rattle.player.specs.Playing.{Event, history, asked, ending, WritesDown}
+use Rattle.player.specs.declared.life.Player.{Player}
+use Rattle.player.specs.Player.{service_of, log_of, limits_in, blocks_of, HoldsPromise, WritesLine}
+use Rattle.player.proofs.Lists.{history_last}
 use Rattle.listing.specs.declared.lines.Reply.{Reply}
-use Rattle.listing.specs.declared.lines.Reply.TheVariants.{Block}
-use Rattle.listing.specs.Lines.{replied, Unserved, Obeys, Answered}
-use Rattle.listing.specs.Plays.{events_of, Stands, NoCall, Tells, Plays, nothing, call, fault, refused_with, fault_of, faulted, Came, Adds, PlaysOn, Played}
+use Rattle.listing.specs.Lines.{outcome}
+use Rattle.listing.specs.Plays.{Programs, Requests}
+use Rattle.listing.specs.Playing.{GrowsBy, request_of, Giving, ending_of, grant_in, Programmed, Requested}
+
+-- ---- what a command asks for
+
+-- a request asks for its call whatever is out
+request_asked : (c : Command) (x : Call) → request_of c ≡ Some x → (out : ℕ → Option ℕ) → asked out c ≡ Some x
+request_asked (command.Begin n) x e out = e
+request_asked (command.Append l) x e out = e
+request_asked (command.Commit n) x e out = absurd (none-some x e)
+request_asked (command.Abandon n) x e out = absurd (none-some x e)
+request_asked (command.Condemn n) x e out = absurd (none-some x e)
+request_asked (command.Read n) x e out = e
+request_asked (command.Trim n) x e out = e
+request_asked (command.Open l f n) x e out = e
+request_asked (command.Close l) x e out = e
+request_asked (command.Position l) x e out = e
+request_asked command.Tally x e out = e
+
+-- an ending asks for its call where its grant is out
+ends_asked : (k : Ending) (out : ℕ → Option ℕ) (g : GrantId) → out g.number ≡ Some g.block → asked out (ending_of k g.number) ≡ Some (end_call k g)
+ends_asked Commit out g e = ap (ending call.Commit g.number) e
+ends_asked Abandon out g e = ap (ending call.Abandon g.number) e
+ends_asked Condemn out g e = ap (ending call.Condemn g.number) e
+
+ends_own : (k : Ending) (g : GrantId) → ended_grant (end_call k g) ≡ Some g
+ends_own Commit g = refl
+ends_own Abandon g = refl
+ends_own Condemn g = refl
+
+some_of : {X : Type 0} (o : Option X) → IsSome o → (x : X) × (o ≡ Some x)
+some_of None e = absurd (false≢true e)
+some_of (Some x) e = (x, refl)
+
+-- the call of a command that asks for a grant
+giving_of : (c : Command) → Giving c → (x : Call) × (request_of c ≡ Some x) × ((k : Limits) (d : Ledger) (y : Streams) (a : Answer) → RightAnswer k d y x a → ((g : GrantId) × (a ≡ Granted g)) ⊎ ((e : Refusal) × (a ≡ Refused e)))
+giving_of (command.Begin n) y = (
+  call.Begin n,
+  refl,
+  λ k d x a r.
+      ⊎_elim inr (λ z. inl (record { number = n; block = z.1.0 }, z.1.2)) (reasoned (reasons k d x (call.Begin n)) (Told k d x (call.Begin n) a) a r),
+)
+giving_of (command.Append l) y = (
+  _,
+  refl,
+  λ k d x a r.
+      ⊎_elim inr (λ z. inl (record { number = z.1.0.next; block = z.1.2.0 }, z.1.2.2)) (reasoned (reasons k d x (call.Append _)) (Told k d x (call.Append _) a) a r),
+)
+giving_of (command.Commit n) y = absurd y
+giving_of (command.Abandon n) y = absurd y
+giving_of (command.Condemn n) y = absurd y
+giving_of (command.Read n) y = absurd y
+giving_of (command.Trim n) y = absurd y
+giving_of (command.Open l f n) y = absurd y
+giving_of (command.Close l) y = absurd y
+giving_of (command.Position l) y = absurd y
+giving_of command.Tally y = absurd y
 
 -- ---- one call
 
-module _ {L B S : Type 0} (bm : Ghosts B L Entry) (sm : Ghosts S StreamLabel Position) (s t : Blocks L B S) where
-  passing : (h : History) (k : Ending) (n : ℕ) (o : Result Reply Refusal) → Answered bm sm s Block finished (Through bm sm s k n) (Passes bm sm s k n) o t → Lived bm sm h s
-      → (new : History) × Stands Block (events_of k n) o new × Lived bm sm (new ++ h) t × Fixed bm sm s t
-  passing h k n o p lived = (events_of k n p.answer, (p.answer, p.outcome, refl), after p.answer (p.step h lived), passes_fixed bm sm s t k n p.answer p.leaves)
-    where
-      after : (r : Result ℕ Refusal) → Passed bm sm h k n r t → Lived bm sm (events_of k n r ++ h) t
-      after (Ok b) on = on
-      after (Err e) on = on
+grown : (log log' : List Event) (e : Event) → log' ≡ log ++ e ∷ [] → history log' ≡ e ∷ history log
+grown log log' e is = ap history is ∙ history_last log e
 
-  no_call : (h : History) (o : Result Reply Refusal) → Unserved bm sm s o t → Lived bm sm h s → (new : History) × NoCall o new × Lived bm sm (new ++ h) t × Fixed bm sm s t
-  no_call h o (is, same) lived = ([], (is, refl), rw same lived, subst (Fixed bm sm s) (sym same) (fixed_none bm sm s))
+requested : (P : ℕ) (log log' : List Event) (c : Command) (x : Call) (e : Event) → request_of c ≡ Some x → WritesDown P log c (Some e) log' → (e.0 ≡ x) × (history log' ≡ (x, e.1) ∷ history log)
+requested P log log' c x e is (asks, written) =
+    let same : e.0 ≡ x = some_one e.0 x (asked (ledger P (history log)).out c) asks (request_asked c x is (ledger P (history log)).out) in
+    (same, grown log log' e written ∙ (λ i. (same i, e.1) ∷ history log))
 
-  tells : (h : History) (c : Call) (o : Result Reply Refusal) → Obeys bm sm s c o t → Lived bm sm h s → (new : History) × Tells c o new × Lived bm sm (new ++ h) t × Fixed bm sm s t
-  tells h (Write n) o p lived = passing h Commit n o p lived
-  tells h (Drop n) o p lived = passing h Abandon n o p lived
-  tells h (Spoil n) o p lived = passing h Condemn n o p lived
-  tells h (Read n) o p lived = (_, (p.answer, p.outcome, refl), p.step h lived, reads_fixed bm sm s t n p.answer p.leaves)
-  tells h (Trim n) o p lived = (_, (p.answer, p.outcome, refl), p.step h lived, trims_fixed bm sm s t n p.answer p.leaves)
-  tells h (Open x) o p lived = no_call h o p lived
-  tells h (Append l) o p lived = no_call h o p lived
-  tells h (Close l) o p lived = no_call h o p lived
-  tells h CallTally o p lived = (_, (p.answer, p.outcome, refl), p.step h lived, subst (Fixed bm sm s) (sym p.leaves) (fixed_none bm sm s))
+module _ {L B S : Type 0} {kind : Label L} {bm : Ghosts B L Entry} {sm : Ghosts S StreamLabel Spot} (p q : Player L B S kind bm sm) (c : Command) (o : Option Event) (line : WritesLine p c (Ok o) q) where
+  written : (e : Event) → o ≡ Some e → ∥ WritesDown (blocks_of p) (log_of p) c (Some e) (log_of q) ∥₁
+  written e is = subst (λ z. WritesLine p c (Ok z) q) is line
 
-  -- a service whose check failed
-  refuses : {A : Type 0} {f : A → Reply} {said : Result A Refusal → Answer} {Leads Left : Result A Refusal → Blocks L B S → Type 0} (e : Refusal) (o : Result Reply Refusal)
-      → ((a : A) → accepted (said (Ok a)) ≡ true) → ((d : Refusal) → said (Err d) ≡ refused d) → s.fault ≡ Some e → Answered bm sm s f said Leads Left o t → (o ≡ Err e) × (t ≡ s)
-  refuses {A} {f} {said} e o yes' no' faulty p = go p.answer p.outcome (p.faulty e faulty)
-    where
-      go : (r : Result A Refusal) → o ≡ replied f r → (said r ≡ refused e) × (t ≡ s) → (o ≡ Err e) × (t ≡ s)
-      go (Ok a) q (is, same) = absurd (true≢false (sym (yes' a) ∙ ap accepted is))
-      go (Err d) q (is, same) = let n = no' d in let d_is : d ≡ e = cc in (q ∙ ap (λ x. Err x) d_is, same)
+  pub request_told : (e : Event) (x : Result Reply Refusal) → o ≡ Some e → IsSome (request_of c) → x ≡ outcome e.1 → Requested (log_of p) c x (log_of q)
+  request_told e x is some told = ∥∥₁_map (written e is) (λ w.
+      let y = some_of (request_of c) some in
+      (y.0, y.1, (y.0, e.1) ∷ [], (e.1, refl, told), (requested (blocks_of p) (log_of p) (log_of q) c y.0 e y.1 w).1))
 
-  refuses_all : (e : Refusal) (c : Call) (o : Result Reply Refusal) → s.fault ≡ Some e → Obeys bm sm s c o t → (o ≡ Err (refused_with e c)) × (t ≡ s)
-  refuses_all e (Write n) o f p = refuses e o (λ _. refl) (λ _. refl) f p
-  refuses_all e (Drop n) o f p = refuses e o (λ _. refl) (λ _. refl) f p
-  refuses_all e (Spoil n) o f p = refuses e o (λ _. refl) (λ _. refl) f p
-  refuses_all e (Read n) o f p = refuses e o (λ _. refl) (λ _. refl) f p
-  refuses_all e (Trim n) o f p = refuses e o (λ _. refl) (λ _. refl) f p
-  refuses_all e (Open x) o f p = p
-  refuses_all e (Append l) o f p = p
-  refuses_all e (Close l) o f p = p
-  refuses_all e CallTally o f p = refuses e o (λ _. refl) (λ _. refl) f p
+  -- ---- a grant and its ending
 
--- ---- reading after reading
+  module _ (holds : HoldsPromise q) (gives : Giving c) (e : Event) (is : o ≡ Some e) (a : Answer) (same : a ≡ e.1) where
+    -- no grant: the call was refused
+    pub program_refused : (k : Ending) (x : Result Reply Refusal) → None ≡ grant_in a → x ≡ outcome a → Programmed (log_of p) c k x (log_of q)
+    program_refused k x none told = ∥∥₁_elim (written e is) (hlevel props) (λ w. ∥∥₁_map holds (λ kept.
+        let y = giving_of c gives in
+        let made = requested (blocks_of p) (log_of p) (log_of q) c y.0 e y.1 w in
+        let right = subst (AllAnswered (limits_in q)) made.1 kept.life.answered in
+        ⊎_elim
+        (λ z. absurd (some_none z.0 (grant_in a) (ap grant_in (same ∙ z.1)) (sym none)))
+        (λ z. (y.0, y.1, (y.0, Refused z.0) ∷ [], inr (z.0, refl, told ∙ ap outcome (same ∙ z.1)), made.1 ∙ (λ i. (y.0, z.1 i) ∷ history (log_of p))))
+        (y.2 (limits_in q) (ledger (blocks_of q) (history (log_of p))) (streams (history (log_of p))) e.1 right.0.right)))
 
-faulted_more : (e : Refusal) (rs : List Reading) (r : Reading) → faulted e (rs ++ r ∷ []) ≡ faulted e rs ++ record { place = r.place; outcome = Err (fault_of e r.outcome) } ∷ []
-faulted_more e [] r = refl
-faulted_more e (x ∷ rs) r = ap (λ ls. record { place = x.place; outcome = Err (fault_of e x.outcome) } ∷ ls) (faulted_more e rs r)
+    module _ (g : GrantId) (gave : Some g ≡ grant_in a) where
+      granted : (b : Answer) → grant_in b ≡ Some g → b ≡ Granted g
+      granted (Granted h) z = ap Granted (some_one h g (Some h) refl z)
+      granted (Block n) z = absurd (none-some g z)
+      granted answer.Opened z = absurd (none-some g z)
+      granted (answer.Closed n) z = absurd (none-some g z)
+      granted (answer.Stands n) z = absurd (none-some g z)
+      granted (answer.Counts n) z = absurd (none-some g z)
+      granted (Refused n) z = absurd (none-some g z)
 
-module _ {L B S : Type 0} (bm : Ghosts B L Entry) (sm : Ghosts S StreamLabel Position) (z : Blocks L B S) where
-  pub plays_none : PlaysOn bm sm z [] [] z
-  plays_none = record { lives = λ h lived. ([], nothing, lived, fixed_none bm sm z); faulty = λ e f. (refl, refl) }
+      given : e.1 ≡ Granted g
+      given = sym same ∙ granted a (sym gave)
 
-  module _ (s t : Blocks L B S) (rs : List Reading) (ls : List Line) (on : PlaysOn bm sm z rs ls s) where
-    lives_on : (p : ℕ) (x : Result Call Refusal) (o : Result Reply Refusal) → Came bm sm s x o t → (h : History) → Lived bm sm h z
-        → (new : History) × Plays (rs ++ record { place = p; outcome = x } ∷ []) (ls ++ record { place = p; outcome = o } ∷ []) new × Lived bm sm (new ++ h) t × Fixed bm sm z t
-    lives_on p (Ok c) o came h lived =
-        let before = on.lives h lived in
-        let after = tells bm sm s t (before.0 ++ h) c o came before.2 in
-        (after.0 ++ before.0, call rs ls before.0 p c o after.0 before.1 after.1, rw append_assoc after.2, fixed_more bm sm z s t before.3 after.3)
-    lives_on p (Err e) o (eo, et) h lived =
-        let before = on.lives h lived in (
-          before.0,
-          subst (λ q. Plays (rs ++ record { place = p; outcome = Err e } ∷ []) (ls ++ record { place = p; outcome = q } ∷ []) before.0) (sym eo) (fault rs ls before.0 p e before.1),
-          subst (Lived bm sm (before.0 ++ h)) (sym et) before.2,
-          subst (Fixed bm sm z) (sym et) before.3,
-        )
+      -- its block is out
+      out_now : WritesDown (blocks_of p) (log_of p) c (Some e) (log_of q) → Promised bm sm (history (log_of q)) (service_of q) → (ledger (blocks_of q) (history (log_of q))).out g.number ≡ Some g.block
+      out_now w kept =
+          rights_hand (limits_in q) (history (log_of q)) (answered_right (limits_in q) (history (log_of q)) kept.life.answered) g
+          (subst (λ h. InHand h g) (sym (grown (log_of p) (log_of q) e w.1)) (inl given))
 
-    faults_on : (e : Refusal) (x : Result Call Refusal) (o : Result Reply Refusal) → s.fault ≡ Some e → Came bm sm s x o t → (o ≡ Err (fault_of e x)) × (t ≡ s)
-    faults_on e (Ok c) o f came = refuses_all bm sm s t e c o f came
-    faults_on e (Err d) o f came = came
+      module _ (r : Player L B S kind bm sm) (k : Ending) (d : Command) (ends : d ≡ ending_of k g.number) (n : Option Event) (next : WritesLine q d (Ok n) r) where
+        then : (f : Option Event) → n ≡ f → WritesLine q (ending_of k g.number) (Ok f) r
+        then f z = subst (λ y. WritesLine q (ending_of k g.number) (Ok y) r) z (subst (λ y. WritesLine q y (Ok n) r) ends next)
 
-    pub plays_more : (r : Reading) (l : Line) → Adds bm sm s r l t → PlaysOn bm sm z (rs ++ r ∷ []) (ls ++ l ∷ []) t
-    plays_more r l adds = subst (λ y. PlaysOn bm sm z (rs ++ r ∷ []) (ls ++ y ∷ []) t) is_line (record {
-      lives = lives_on r.place r.outcome l.outcome adds.came;
-      faulty = λ e f.
-          let so = on.faulty e f in
-          let now_too = faults_on e r.outcome l.outcome (ap (λ b. b.fault) so.1 ∙ f) adds.came in
-          ((λ i. so.0 i ++ record { place = r.place; outcome = now_too.0 i } ∷ []) ∙ sym (faulted_more e rs r), now_too.1 ∙ so.1);
-    })
-      where
-        is_line : record { place = r.place; outcome = l.outcome } ≡ l
-        is_line i = record { place = sym adds.place i; outcome = l.outcome }
+        pub program_goes_on : n ≡ None → ⊥
+        program_goes_on z = ∥∥₁_elim (written e is) (hlevel props) (λ w. ∥∥₁_elim holds (hlevel props) (λ kept. ∥∥₁_elim (then None z) (hlevel props) (λ v.
+            let out = (ledger (blocks_of q) (history (log_of q))).out in
+            some_none (end_call k g) (asked out (ending_of k g.number)) (ends_asked k out g (out_now w kept)) v.0)))
 
--- ---- the whole tape
+        pub program_ended : (f : Event) (x : Result Reply Refusal) → n ≡ Some f → HoldsPromise r → x ≡ outcome f.1 → Programmed (log_of p) c k x (log_of r)
+        program_ended f x z after told = ∥∥₁_elim (written e is) (hlevel props) (λ w. ∥∥₁_elim holds (hlevel props) (λ kept. ∥∥₁_elim (then (Some f) z) (hlevel props) (λ v. ∥∥₁_map after (λ kept'.
+            let y = giving_of c gives in
+            let made = requested (blocks_of p) (log_of p) (log_of q) c y.0 e y.1 w in
+            let out = (ledger (blocks_of q) (history (log_of q))).out in
+            let ended : f.0 ≡ end_call k g = some_one f.0 (end_call k g) (asked out (ending_of k g.number)) v.0 (ends_asked k out g (out_now w kept)) in
+            let right = subst (AllAnswered (limits_in r)) (grown (log_of q) (log_of r) f v.1) kept'.life.answered in
+            let said : f.1 ≡ Block (Some g.block) = right.0.ended g (ap ended_grant ended ∙ ends_own k g) in (
+              y.0,
+              y.1,
+              (end_call k g, Block (Some g.block)) ∷ ((y.0, Granted g) ∷ []),
+              inl (g, refl, told ∙ ap outcome said),
+              grown (log_of q) (log_of r) f v.1 ∙ (λ i. (ended i, said i) ∷ made.1 i) ∙ (λ i. (end_call k g, Block (Some g.block)) ∷ ((y.0, given i) ∷ history (log_of p))),
+            )))))
 
-module _ {L B S : Type 0} (bm : Ghosts B L Entry) (sm : Ghosts S StreamLabel Position) (s : Blocks L B S) (T : List ℕ) where
-  pub opened_played : (t : Blocks L B S) (r : Reader) (rs : List Reading) (ls : List Line) → Opened T (Ok r) → DrainsIf Gives (Unit {0}) r rs → PlaysOn bm sm s rs ls t → Played bm sm T s ls t
-  opened_played t r rs ls o ran on = (rs, opened_reads T r rs o ran, on)
+-- ---- the calls of a tape
 
-  pub unopened_played : (t : Blocks L B S) (f : Fault) (r : Reading) (l : Line) → Opened T (Err f) → r ≡ record { place = f.place; outcome = Err f.refusal }
-      → Adds bm sm s r l t → Played bm sm T s (l ∷ []) t
-  unopened_played t f r l o e adds = (r ∷ [], unopened_reads T f _ o (ap (λ x. x ∷ []) e), plays_more bm sm s s t [] [] (plays_none bm sm s) r l adds)
+pub obeyed_request : (log log' : List Event) (c : Command) (x : Call) (o : Result Reply Refusal) → request_of c ≡ Some x → Requested log c o log' → ∥ ((new : History) × Requests x o new × GrowsBy log new log') ∥₁
+obeyed_request log log' c x o is told = ∥∥₁_map told (λ z. (z.2, subst (λ y. Requests y o z.2) (some_one z.0 x (request_of c) z.1 is) z.3, z.4))
+
+pub obeyed_program : (log log' : List Event) (c : Command) (x : Call) (k : Ending) (o : Result Reply Refusal) → request_of c ≡ Some x → Programmed log c k o log' → ∥ ((new : History) × Programs x (end_call k) o new × GrowsBy log new log') ∥₁
+obeyed_program log log' c x k o is told = ∥∥₁_map told (λ z. (z.2, subst (λ y. Programs y (end_call k) o z.2) (some_one z.0 x (request_of c) z.1 is) z.3, z.4))

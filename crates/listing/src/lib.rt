@@ -1,8 +1,9 @@
-// A tape played on a service, field by field: each field adds one line to the listing.
+// A tape obeyed through a player, field by field: each field adds one line to the listing.
 #![tactic(auto)]
 
 mod lines;
+mod obeying;
 mod playing;
 
 pub use lines::{Line, Reply};
-pub use playing::{list, obey, play};
+pub use playing::play;

@@ -1,45 +1,33 @@
-// A service plays a tape.
-ghost use Rattle.std.specs.Prelude.{IfOk};
-ghost use Rattle.listing.specs.Lines.{Obeys};
-ghost use Rattle.listing.specs.Plays.{Adds, Played};
+// A player plays a tape.
+ghost use Rattle.std.specs.Prelude.{◌≡◌, ◌+◌, ◌*◌, ◌≤◌, IsOk, OnOk, OnErr, vec_len, vec_capacity};
+ghost use Rattle.call_tape.specs.Fields.{most_readings};
+ghost use Rattle.player.specs.Player.{log_of, room_of, HoldsPromise, SizesStay, Unasked};
+ghost use Rattle.listing.specs.Playing.{Adds, Played};
 
-use crate::lines::{Line, Reply};
-use blocks::Blocks;
-use call_tape::{Call, Reader, Reading};
+use crate::lines::Line;
+use crate::obeying::obey;
+use call_tape::{Reader, Reading, most_readings};
 use label::{BlockNumber, StreamLabel};
 use map::Map;
-use refusal::Refusal;
+use player::Player;
 use rules::{Entry, Position};
-use std::alloc::{AllocError, Global};
-
-// Carries out one call of a tape. No service knows the calls of a stream yet: to it their tags are unknown.
-pub fn obey<'a, L: BlockNumber, B: Map<L, Entry>, S: Map<StreamLabel, Position>>(
-    service: &mut Blocks<'a, L, B, S>,
-    call: Call,
-) -> Result<Reply, Refusal>
-    ensures { Obeys B.Map S.Map service.old call result service.new }
-{
-    Ok(match call {
-        Call::Write(n) => Reply::Block(service.write(n)?),
-        Call::Drop(n) => Reply::Block(service.drop(n)?),
-        Call::Spoil(n) => Reply::Block(service.spoil(n)?),
-        Call::Read(n) => service.read(n)?.into(),
-        Call::Trim(n) => service.trim(n)?.into(),
-        Call::Open(_) | Call::Append(_) | Call::Close(_) => return Err(Refusal::UnknownTag),
-        Call::Tally => Reply::Counts(service.tally()?),
-    })
-}
+use std::alloc::AllocError;
 
 // The line of one reading: a fault of the tape stands as it is, and a call is obeyed.
-pub fn list<'a, L: BlockNumber, B: Map<L, Entry>, S: Map<StreamLabel, Position>>(
-    service: &mut Blocks<'a, L, B, S>,
+fn list<'a, L: BlockNumber, B: Map<L, Entry>, S: Map<StreamLabel, Position>>(
+    player: &mut Player<'a, L, B, S>,
     reading: Reading,
 ) -> Line
-    ensures { Adds B.Map S.Map service.old reading result service.new }
+    requires room { 2 ≤ room_of player.old }
+    requires promise { HoldsPromise player.old }
+    ensures adds { Adds (log_of player.old) reading result (log_of player.new) }
+    ensures fixed { SizesStay player.old player.new }
+    ensures promised { HoldsPromise player.new }
+    ensures room { room_of player.old ≤ room_of player.new + 2 }
 {
     // Not `and_then`: its contract leaves open whether the closure runs at a fault.
     let outcome = match reading.outcome {
-        Ok(call) => obey(service, call),
+        Ok(call) => obey(player, call),
         Err(refusal) => Err(refusal),
     };
     Line {
@@ -48,22 +36,36 @@ pub fn list<'a, L: BlockNumber, B: Map<L, Entry>, S: Map<StreamLabel, Position>>
     }
 }
 
-// The listing of a whole tape, in order. A tape that is too long is one fault, and the service is not asked.
+/// Adds the listing of a whole tape to `lines`, a line for each field, in order. A tape that is too long is one fault, and no call is made.
+/// All memory is taken first: where it runs out, nothing is played and no line is added, and where there is room already it is played.
 pub fn play<'a, L: BlockNumber, B: Map<L, Entry>, S: Map<StreamLabel, Position>>(
-    service: &mut Blocks<'a, L, B, S>,
+    player: &mut Player<'a, L, B, S>,
     tape: &[u8],
-    heap: Global,
-) -> Result<Vec<Line>, AllocError>
-    ensures { IfOk result (λ v. Played B.Map S.Map tape.now service.old v.items service.new) }
+    lines: &mut Vec<Line>,
+) -> Result<(), AllocError>
+    ensures played { OnOk result (Played tape.now (log_of player.old) lines.old.items lines.new.items (log_of player.new)) }
+    ensures fixed { SizesStay player.old player.new }
+    ensures promised { HoldsPromise player.new }
+    ensures room { room_of player.old ≤ room_of player.new + 2 * most_readings tape.now }
+    ensures lent { vec_capacity lines.old ≤ vec_capacity lines.new }
+    ensures unasked { OnErr result (Unasked player.old player.new) }
+    ensures no_lines { OnErr result (lines.new.items ≡ lines.old.items) }
+    ensures succeeds { vec_len lines.old + most_readings tape.now ≤ vec_capacity lines.old → 2 * most_readings tape.now ≤ room_of player.old → IsOk result }
 {
-    let mut lines = Vec::new(heap);
+    let most = most_readings(tape);
+    player.reserve(2 * most)?;
+    lines.reserve(most)?;
     match Reader::new(tape) {
         Ok(reader) => {
             for reading in reader {
-                lines.push(list(service, reading))?;
+                let line = list(player, reading);
+                lines.push_reserved(line);
             }
         }
-        Err(fault) => lines.push(list(service, fault.into()))?,
+        Err(fault) => {
+            let line = list(player, fault.into());
+            lines.push_reserved(line);
+        }
     }
-    Ok(lines)
+    Ok(())
 }

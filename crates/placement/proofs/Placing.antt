@@ -32,6 +32,14 @@ module _ {L : Type 0} (kind : Ghosts L) where
         (λ n e. let p = part n in grind arith) (fits.four i);
   }
 
+  -- four labels at most have room together, each in its first bucket
+  pub fits_few : (b : ℕ) (s : ℕ → Bool) → 0 < b → AtMost 4 s → Fits kind b s
+  fits_few b s some few = record {
+    given = first_of kind b;
+    choice = λ n e. (some, inl refl);
+    four = λ i. most_part 4 (λ n. s n && eqb (first_of kind b n) i) s (λ n e. grind arith) few;
+  }
+
 module _ {L V : Type 0} (kind : Ghosts L) (bs : List (Bucket L V)) where
   -- ---- the number of the label in slot k of bucket i
 

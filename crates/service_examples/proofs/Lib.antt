@@ -1,2 +1,3 @@
--- What the examples' helpers rest on.
-pub mod Keeping
+-- Grants that are held, and services that give none.
+pub mod Held
+pub mod Out

@@ -1,13 +1,16 @@
-// Examples of services and of listings, each proved and then run.
+// Examples of a bare service: a host that holds its grant while it writes, and tests of the calls.
 #![tactic(auto)]
 
 #[cfg(test)]
-mod card;
+mod areas;
 #[cfg(test)]
-mod granting;
+mod holding;
 #[cfg(test)]
-mod listings;
+mod hosts;
 #[cfg(test)]
 mod making;
+mod programming;
 #[cfg(test)]
 mod settling;
+
+pub use programming::program;

@@ -1,2 +1,0 @@
--- What the contracts of the entry cite.
-pub mod Turns

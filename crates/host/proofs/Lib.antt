@@ -1,2 +1,0 @@
--- The grant that a host holds.
-pub mod Held

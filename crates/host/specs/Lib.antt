@@ -1,2 +1,0 @@
--- What a host's write promises.
-pub mod Program
