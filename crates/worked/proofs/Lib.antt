@@ -6,3 +6,6 @@ pub mod Moving
 pub mod Denying
 pub mod Reading
 pub mod OneBucket
+pub mod Numbers
+pub mod Lives
+pub mod Service

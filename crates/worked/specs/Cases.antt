@@ -1,4 +1,4 @@
--- Small examples of the rules for labels and their table, worked out by hand. All are of the old line's block numbers.
+-- Small examples of the rules, worked out by hand: those for labels and their table, all of the old line's block numbers, and with them those of a service.
 --   old n                  the number n as a label
 --   Filled bs ps rs es     puts of the pairs ps into the table bs, one after the other, answer rs and leave es
 --   CountAndFilter es m f  bucket 0 has the moved count m and the filter f
@@ -9,7 +9,7 @@
 --   Digested               digests, and what follows from them
 --   PutAside, PutWithMove, PutDenied, BucketsRead   puts into two empty buckets, and what comes of them
 --   OneBucket              what fits into one bucket
---   WorkedCases            all of them
+--   WorkedCases            all of them, and those of a service
 -- Assumes nothing.
 use Rattle.std.specs.Prelude.{◌≡◌, ℕ, ◌+◌, ◌^◌, Bool, ◌⊎◌, List, [], ◌∷◌, Ok, Err, Option, Result}
 use Rattle.label.specs.declared.old_block.OldBlock.{OldBlock}
@@ -30,6 +30,7 @@ use Rattle.insertion.specs.Putting.{Puts}
 use Rattle.insertion.specs.declared.storing.Stored.{Stored}
 use Rattle.insertion.specs.declared.storing.Stored.TheVariants.{Added}
 use Rattle.bucket_map.specs.Areas.{fresh}
+use Rattle.worked.specs.Service.{ServiceCases}
 
 abbrev pub old : ℕ → OldBlock
 old n = record { 0 = n }
@@ -110,3 +111,4 @@ pub record WorkedCases (V : Type 0) : Type 0 where
   pub denies : (b c : Bucket OldBlock V) (u v w x y : V) → PutDenied b c u v w x y
   pub reads : (b c : Bucket OldBlock V) (u v w x y : V) → BucketsRead b c u v w x y
   pub one_bucket : OneBucket
+  pub service : ServiceCases

@@ -1,2 +1,3 @@
 -- What the worked cases say.
+pub mod Service
 pub mod Cases

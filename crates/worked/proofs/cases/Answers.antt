@@ -1,4 +1,4 @@
--- Each case is computed, or comes from the one outcome of its puts.
+-- Each case is computed, or comes from the one outcome of its puts or from the one list of answers of its calls.
 use Rattle.std.proofs.Common.{refl}
 use Rattle.label.specs.Digests.{mixed, stirred, old_digest, rotated}
 use Rattle.bucket.specs.Spread.{pair_of}
@@ -8,6 +8,7 @@ use Rattle.worked.proofs.Moving.{put_with_move_holds}
 use Rattle.worked.proofs.OneBucket.{one_bucket_holds}
 use Rattle.worked.proofs.Outcomes.{one_outcome_holds}
 use Rattle.worked.proofs.Reading.{buckets_read_holds}
+use Rattle.worked.proofs.Service.{service_holds}
 use Rattle.worked.proofs.cases.Goals as goal
 
 pub returns : goal.returns
@@ -21,4 +22,5 @@ returns g c =
       denies = put_denied_holds;
       reads = buckets_read_holds;
       one_bucket = one_bucket_holds;
+      service = service_holds;
     }
