@@ -20,17 +20,17 @@ pub trait Label: Copy {
     // The digest, by the number alone.
     ghost spread: { ℕ → ℕ };
 
-    fn number(self) -> u32
-        ensures { result ≡ number self };
-
     fn same(self, other: Self) -> bool
-        ensures { result ≡ eqb (number self) (number other) }
-    {
-        self.number() == other.number()
-    }
+        ensures { result ≡ eqb (number self) (number other) };
 
     fn digest(self) -> u64
         ensures { result ≡ spread (number self) };
+}
+
+/// A label whose number fits 32 bits, and can be told.
+pub trait Numbered: Label {
+    fn number(self) -> u32
+        ensures { result ≡ Self.Label.number self };
 }
 
 // A label that is a block number, and is made from one.

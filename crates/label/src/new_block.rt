@@ -3,7 +3,7 @@ ghost use Rattle.std.specs.Prelude.{◌≡◌};
 ghost use Rattle.label.specs.Digests.{mixed};
 
 use crate::digest::mix;
-use crate::{BlockNumber, Label};
+use crate::{BlockNumber, Label, Numbered};
 
 #[derive(Clone, Copy, PartialEq, Eq, Debug)]
 pub struct NewBlock(pub u32);
@@ -13,12 +13,18 @@ impl Label for NewBlock {
 
     ghost spread = { mixed };
 
-    fn number(self) -> u32 {
-        self.0
+    fn same(self, other: NewBlock) -> bool {
+        self.number() == other.number()
     }
 
     fn digest(self) -> u64 {
         mix(self.number() as u64)
+    }
+}
+
+impl Numbered for NewBlock {
+    fn number(self) -> u32 {
+        self.0
     }
 }
 

@@ -3,7 +3,7 @@ ghost use Rattle.std.specs.Prelude.{◌≡◌};
 ghost use Rattle.label.specs.Digests.{old_digest};
 
 use crate::digest::old_digest;
-use crate::{BlockNumber, Label};
+use crate::{BlockNumber, Label, Numbered};
 
 // Beside `NewBlock` and not one generic type with it: that would need a marker type for each line, and `OldBlock(7)` could not be written.
 #[derive(Clone, Copy, PartialEq, Eq, Debug)]
@@ -14,12 +14,18 @@ impl Label for OldBlock {
 
     ghost spread = { old_digest };
 
-    fn number(self) -> u32 {
-        self.0
+    fn same(self, other: OldBlock) -> bool {
+        self.number() == other.number()
     }
 
     fn digest(self) -> u64 {
         old_digest(self.number())
+    }
+}
+
+impl Numbered for OldBlock {
+    fn number(self) -> u32 {
+        self.0
     }
 }
 

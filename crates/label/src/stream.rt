@@ -2,8 +2,8 @@
 ghost use Rattle.std.specs.Prelude.{◌+◌, ◌*◌, ◌/◌, ◌%◌, ◌^◌, ◌≡◌};
 ghost use Rattle.label.specs.Digests.{stream_number, mixed};
 
-use crate::Label;
 use crate::digest::mix;
+use crate::{Label, Numbered};
 
 #[derive(Clone, Copy, PartialEq, Eq, Debug)]
 pub struct StreamLabel {
@@ -34,11 +34,17 @@ impl Label for StreamLabel {
 
     ghost spread = { mixed };
 
-    fn number(self) -> u32 {
-        StreamLabel::number(self)
+    fn same(self, other: StreamLabel) -> bool {
+        self.number() == other.number()
     }
 
     fn digest(self) -> u64 {
         mix(self.number() as u64)
+    }
+}
+
+impl Numbered for StreamLabel {
+    fn number(self) -> u32 {
+        StreamLabel::number(self)
     }
 }
