@@ -1,4 +1,5 @@
 // The calls that end a grant: each has its own name by the rules, and `finish` does what they share.
+ghost use Rattle.std.specs.Prelude.{◌≡◌};
 ghost use Rattle.service.specs.Service.{StepsBy, RefusesAll, Ends, Finishes, Back, end_call, finished, ended, grant_id, plain};
 ghost use Rattle.service.specs.declared.entry.Ending.TheVariants.{Commit, Abandon, Condemn};
 
@@ -18,6 +19,7 @@ impl<'a, L: BlockNumber, B: Map<L, Entry>, S: Map<StreamLabel, Position>> Servic
     pub fn commit(&mut self, grant: Grant) -> Result<u32, (Refusal, Grant)>
         ensures step { StepsBy B.Map S.Map self.old (end_call Commit (plain grant)) (ended result) self.new }
         ensures leaves { Finishes B.Map S.Map self.old Commit grant result self.new }
+        ensures streams { self.new.streams ≡ self.old.streams }
         ensures faulty { RefusesAll B.Map S.Map self.old (ended result) self.new }
         ensures back { Back grant result }
     {
@@ -29,6 +31,7 @@ impl<'a, L: BlockNumber, B: Map<L, Entry>, S: Map<StreamLabel, Position>> Servic
     pub fn abandon(&mut self, grant: Grant) -> Result<u32, (Refusal, Grant)>
         ensures step { StepsBy B.Map S.Map self.old (end_call Abandon (plain grant)) (ended result) self.new }
         ensures leaves { Finishes B.Map S.Map self.old Abandon grant result self.new }
+        ensures streams { self.new.streams ≡ self.old.streams }
         ensures faulty { RefusesAll B.Map S.Map self.old (ended result) self.new }
         ensures back { Back grant result }
     {
@@ -40,6 +43,7 @@ impl<'a, L: BlockNumber, B: Map<L, Entry>, S: Map<StreamLabel, Position>> Servic
     pub fn condemn(&mut self, grant: Grant) -> Result<u32, (Refusal, Grant)>
         ensures step { StepsBy B.Map S.Map self.old (end_call Condemn (plain grant)) (ended result) self.new }
         ensures leaves { Finishes B.Map S.Map self.old Condemn grant result self.new }
+        ensures streams { self.new.streams ≡ self.old.streams }
         ensures faulty { RefusesAll B.Map S.Map self.old (ended result) self.new }
         ensures back { Back grant result }
     {
@@ -50,6 +54,7 @@ impl<'a, L: BlockNumber, B: Map<L, Entry>, S: Map<StreamLabel, Position>> Servic
     fn finish(&mut self, grant: Grant, ending: Ending) -> Result<u32, (Refusal, Grant)>
         ensures step { StepsBy B.Map S.Map self.old (end_call ending (plain grant)) (ended result) self.new }
         ensures leaves { Finishes B.Map S.Map self.old ending grant result self.new }
+        ensures streams { self.new.streams ≡ self.old.streams }
         ensures faulty { RefusesAll B.Map S.Map self.old (ended result) self.new }
         ensures back { Back grant result }
     {
@@ -66,6 +71,7 @@ impl<'a, L: BlockNumber, B: Map<L, Entry>, S: Map<StreamLabel, Position>> Servic
     pub(crate) fn end(&mut self, n: u32, b: u32, ending: Ending) -> Result<u32, Refusal>
         ensures step { StepsBy B.Map S.Map self.old (end_call ending (grant_id n b)) (finished result) self.new }
         ensures leaves { Ends B.Map S.Map self.old ending n b result self.new }
+        ensures streams { self.new.streams ≡ self.old.streams }
         ensures faulty { RefusesAll B.Map S.Map self.old (finished result) self.new }
     {
         self.sound()?;

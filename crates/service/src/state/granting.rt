@@ -1,4 +1,5 @@
 // The calls that send a block out.
+ghost use Rattle.std.specs.Prelude.{◌≡◌};
 ghost use Rattle.rules.specs.declared.Call.TheVariants.{Begin as began};
 ghost use Rattle.service.specs.Stores.{Stores};
 ghost use Rattle.service.specs.Service.{StepsBy, RefusesAll, Sends, Gives, Begins, given, begun};
@@ -17,6 +18,7 @@ impl<'a, L: BlockNumber, B: Map<L, Entry>, S: Map<StreamLabel, Position>> Servic
     pub fn begin(&mut self, n: u32) -> Result<Grant, Refusal>
         ensures step { StepsBy B.Map S.Map self.old (began n) (begun result) self.new }
         ensures leaves { Begins B.Map S.Map self.old n result self.new }
+        ensures streams { self.new.streams ≡ self.old.streams }
         ensures faulty { RefusesAll B.Map S.Map self.old (begun result) self.new }
     {
         let block = self.give(n)?;
@@ -31,6 +33,7 @@ impl<'a, L: BlockNumber, B: Map<L, Entry>, S: Map<StreamLabel, Position>> Servic
     pub(crate) fn give(&mut self, n: u32) -> Result<u32, Refusal>
         ensures step { StepsBy B.Map S.Map self.old (began n) (given n result) self.new }
         ensures leaves { Gives B.Map S.Map self.old n result self.new }
+        ensures streams { self.new.streams ≡ self.old.streams }
         ensures faulty { RefusesAll B.Map S.Map self.old (given n result) self.new }
     {
         self.sound()?;
@@ -40,7 +43,8 @@ impl<'a, L: BlockNumber, B: Map<L, Entry>, S: Map<StreamLabel, Position>> Servic
 
     // Sends the front block out at the number n, which is allowed.
     pub(crate) fn send(&mut self, n: u32) -> Result<u32, Refusal>
-        ensures { Sends B.Map S.Map self.old n result self.new }
+        ensures leaves { Sends B.Map S.Map self.old n result self.new }
+        ensures streams { self.new.streams ≡ self.old.streams }
     {
         let label = L::from(n);
         let entry = self.entries.find(label);

@@ -1,4 +1,5 @@
 // The calls about settled blocks, and the tally.
+ghost use Rattle.std.specs.Prelude.{◌≡◌};
 ghost use Rattle.rules.specs.declared.Call.TheVariants.{Read as reading, Trim as trimming, Tally as tallying};
 ghost use Rattle.service.specs.Service.{StepsBy, RefusesAll, Reads, Trims, Tallies, found, tallied};
 ghost use Rattle.service.specs.Promised.{PromisedAlways};
@@ -16,6 +17,7 @@ impl<'a, L: BlockNumber, B: Map<L, Entry>, S: Map<StreamLabel, Position>> Servic
     pub fn read(&mut self, n: u32) -> Result<Option<u32>, Refusal>
         ensures step { StepsBy B.Map S.Map self.old (reading n) (found result) self.new }
         ensures leaves { Reads B.Map S.Map self.old n result self.new }
+        ensures streams { self.new.streams ≡ self.old.streams }
         ensures faulty { RefusesAll B.Map S.Map self.old (found result) self.new }
     {
         self.sound()?;
@@ -28,6 +30,7 @@ impl<'a, L: BlockNumber, B: Map<L, Entry>, S: Map<StreamLabel, Position>> Servic
     pub fn trim(&mut self, n: u32) -> Result<Option<u32>, Refusal>
         ensures step { StepsBy B.Map S.Map self.old (trimming n) (found result) self.new }
         ensures leaves { Trims B.Map S.Map self.old n result self.new }
+        ensures streams { self.new.streams ≡ self.old.streams }
         ensures faulty { RefusesAll B.Map S.Map self.old (found result) self.new }
     {
         self.sound()?;

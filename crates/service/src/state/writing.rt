@@ -1,4 +1,5 @@
 // A begin and its ending in one call, for callers that need no grant in between: each has its own name by the rules, and `pass` does what they share.
+ghost use Rattle.std.specs.Prelude.{◌≡◌};
 ghost use Rattle.service.specs.Service.{RefusesAll, StepsByBoth, LeavesByBoth, finished};
 ghost use Rattle.service.specs.declared.entry.Ending.TheVariants.{Commit, Abandon, Condemn};
 
@@ -14,6 +15,7 @@ impl<'a, L: BlockNumber, B: Map<L, Entry>, S: Map<StreamLabel, Position>> Servic
     pub fn write(&mut self, n: u32) -> Result<u32, Refusal>
         ensures step { StepsByBoth B.Map S.Map self.old Commit n result self.new }
         ensures leaves { LeavesByBoth B.Map S.Map self.old Commit n result self.new }
+        ensures streams { self.new.streams ≡ self.old.streams }
         ensures faulty { RefusesAll B.Map S.Map self.old (finished result) self.new }
     {
         self.pass(n, Ending::Commit)
@@ -23,6 +25,7 @@ impl<'a, L: BlockNumber, B: Map<L, Entry>, S: Map<StreamLabel, Position>> Servic
     pub fn drop(&mut self, n: u32) -> Result<u32, Refusal>
         ensures step { StepsByBoth B.Map S.Map self.old Abandon n result self.new }
         ensures leaves { LeavesByBoth B.Map S.Map self.old Abandon n result self.new }
+        ensures streams { self.new.streams ≡ self.old.streams }
         ensures faulty { RefusesAll B.Map S.Map self.old (finished result) self.new }
     {
         self.pass(n, Ending::Abandon)
@@ -32,6 +35,7 @@ impl<'a, L: BlockNumber, B: Map<L, Entry>, S: Map<StreamLabel, Position>> Servic
     pub fn spoil(&mut self, n: u32) -> Result<u32, Refusal>
         ensures step { StepsByBoth B.Map S.Map self.old Condemn n result self.new }
         ensures leaves { LeavesByBoth B.Map S.Map self.old Condemn n result self.new }
+        ensures streams { self.new.streams ≡ self.old.streams }
         ensures faulty { RefusesAll B.Map S.Map self.old (finished result) self.new }
     {
         self.pass(n, Ending::Condemn)
@@ -41,6 +45,7 @@ impl<'a, L: BlockNumber, B: Map<L, Entry>, S: Map<StreamLabel, Position>> Servic
     fn pass(&mut self, n: u32, ending: Ending) -> Result<u32, Refusal>
         ensures step { StepsByBoth B.Map S.Map self.old ending n result self.new }
         ensures leaves { LeavesByBoth B.Map S.Map self.old ending n result self.new }
+        ensures streams { self.new.streams ≡ self.old.streams }
         ensures faulty { RefusesAll B.Map S.Map self.old (finished result) self.new }
     {
         let b = self.give(n)?;

@@ -6,7 +6,7 @@ use Rattle.service.proofs.state.Service.append.Goals as goal
 pub returns-clause-leaves : goal.returns-clause-leaves
 returns-clause-leaves g c = (
   refl,
-  appended g.B.Map g.S.Map _ _ _ _ c.find.ensures _ c.in_ok-stream.ensures.ok_part c.if-stream.false _ _ c.in_ok-block.ensures _
+  appended g.B.Map g.S.Map _ _ _ _ c.find.ensures _ c.in_ok-stream.ensures.ok_part c.if-stream.false _ _ c.in_ok-block.ensures.leaves _
       c.advanced.ensures _ _ c.put.ensures,
 )
 

@@ -6,16 +6,16 @@ use Rattle.service.specs.Turns.{Turns}
 use Rattle.service.proofs.Giving.{sent_out, no_block_waiting}
 use Rattle.service.proofs.state.Service.send.Goals as goal
 
-pub returns-in_err-b : goal.returns-in_err-b
-returns-in_err-b g c =
+pub returns-in_err-b-clause-leaves : goal.returns-in_err-b-clause-leaves
+returns-in_err-b-clause-leaves g c =
     let n = c.args.n in
     let turns = subst (Turns c.find-entry.result (Begin c.unwrap_or.result)) c.in_ok-turn.ensures.ok_part c.advance.ensures in
     let is : c.from_residual-in_err-b.result ≡ Err NoBlockWaiting = search rules in
     rw is (no_block_waiting g.B.Map g.S.Map c.args.self.now n _ (g.met.L.BlockNumber.made n _ c.from-label.ensures) _ _ c.find-entry.ensures turns.0
     (sym c.in_err-b.ensures.ok_part ∙ c.front-front.ensures))
 
-pub returns : goal.returns
-returns g c =
+pub returns-clause-leaves : goal.returns-clause-leaves
+returns-clause-leaves g c =
     let n = c.args.n in
     let b = c.in_ok-b.b in
     let turns = subst (Turns c.find-entry.result (Begin c.unwrap_or.result)) c.in_ok-turn.ensures.ok_part c.advance.ensures in
