@@ -16,7 +16,7 @@ take_front zero x ys z = absurd (omega arith)
 take_front (suc n) x ys z = rw sub-one
 
 module _ {X : Type 0} (xs : List X) (h n : ℕ) where
-  contents_length : h ≤ length xs → n ≤ length xs → length (contents xs h n) ≡ n
+  pub contents_length : h ≤ length xs → n ≤ length xs → length (contents xs h n) ≡ n
   contents_length a b = simp (length-append, length-take, length-drop) (omega arith)
 
   -- a value more at the back, before the end of the cells
@@ -74,7 +74,7 @@ start_past h n l = grind (arith, nat_tests)
 start_below : (h n : ℕ) → 0 < n → start h n < n
 start_below h n l = grind (arith, nat_tests)
 
-start_within : (h n : ℕ) → start h n ≤ n
+pub start_within : (h n : ℕ) → start h n ≤ n
 start_within h n = grind (arith, nat_tests)
 
 -- the front leaves, and the next cell, or the first after the last, is the front

@@ -32,7 +32,7 @@ use Rattle.service.proofs.Lives.{lives, refused_lives, ends_once, waits_below, c
 use Rattle.service.proofs.Giving.{old_is, stored}
 
 -- what a turn by an ending says, whichever it is
-ended_turn : (k : Ending) (e : Option Entry) (b : ℕ) (t : Turn) → Turns e (event_of k b) (Some t)
+pub ended_turn : (k : Ending) (e : Option Entry) (b : ℕ) (t : Turn) → Turns e (event_of k b) (Some t)
     → (out_of e ≡ Some b) × (t.entry ≡ entry_after k (settled_of e) b) × (t.back ≡ freed k (settled_of e) b) × (t.lost ≡ lost k b)
 ended_turn Commit e b t x = x
 ended_turn Abandon e b t x = x
@@ -60,7 +60,7 @@ after s m pool marks out gone = record {
 module _ {L B S : Type 0} (bm : Ghosts B L Entry) (sm : Ghosts S StreamLabel Position) (s : Service L B S)
     (n l : ℕ) (is : l ≡ n) (m₁ : B) (old : Option Entry) (found : Finds bm.pairs bm.shape bm.fits s.entries l old m₁) where
   -- an entry that has a block out is held, so storing there is never denied
-  stores_held : (b : ℕ) (e : Option Entry) (r : Result (Unit {0}) Denied) (m₂ : B) → out_of old ≡ Some b → Stores bm m₁ l e r m₂ → Stores bm m₁ l e (Ok tt) m₂
+  pub stores_held : (b : ℕ) (e : Option Entry) (r : Result (Unit {0}) Denied) (m₂ : B) → out_of old ≡ Some b → Stores bm m₁ l e r m₂ → Stores bm m₁ l e (Ok tt) m₂
   stores_held b e (Ok u) m₂ here st = st
   stores_held b e (Err d) m₂ here st =
       absurd (some_none b (out_of old) here (ap out_of (found.answer ∙ (λ i. sym found.after i l) ∙ st.answer.1)))
@@ -112,7 +112,7 @@ module _ {L B S : Type 0} (bm : Ghosts B L Entry) (sm : Ghosts S StreamLabel Pos
       (rw lived.marks (out_block (limits_of bm sm s) h (standing bm sm s) lived.run n b out))
       (not_condemned (limits_of bm sm s) h (standing bm sm s) lived.run n b out) lived.condemned)
 
-  ended_lives : (v : Ending) (n b : ℕ) → GrantEnded bm sm s v n b t
+  pub ended_lives : (v : Ending) (n b : ℕ) → GrantEnded bm sm s v n b t
       → ReachedBy bm sm ((end_call v (grant_id n b), block (Some b)) ∷ h) t
   ended_lives v n b ends =
       lives bm sm h s t (end_call v (grant_id n b)) lived (block (Some b)) (update eqb (bm.pairs s.entries) n (entry_after v (settled_of (bm.pairs s.entries n)) b))

@@ -25,7 +25,7 @@ module _ {L B S : Type 0} (bm : Ghosts B L Entry) (sm : Ghosts S StreamLabel Pos
     left_fixed : (f : ℕ → Option Entry) (x : ℕ → Option Position) (Q : Ring ℕ → Type 0) (d : List Mark) (o g : ℕ) → Leaves bm sm s f x Q d o g t → places t.pool ≡ places s.pool → t.pool.cells.ghost_name ≡ s.pool.cells.ghost_name → Fixed bm sm s t
     left_fixed f x Q d o g left room area = record { limit = left.limit; places = room; pool_area = area; marks_area = left.area; blocks = left.fit; streams = left.stream_fit }
 
-    unchanged_fixed : Unchanged bm sm s t → Fixed bm sm s t
+    pub unchanged_fixed : Unchanged bm sm s t → Fixed bm sm s t
     unchanged_fixed left = left_fixed _ _ _ _ _ _ left (ap places left.pool) (λ i. (left.pool i).cells.ghost_name)
 
     pub gives_fixed : (n : ℕ) (r : Result ℕ Refusal) → Gives bm sm s n r t → Fixed bm sm s t

@@ -47,11 +47,11 @@ module _ {L B S : Type 0} (bm : Ghosts B L Entry) (sm : Ghosts S StreamLabel Pos
     pub stored : Stores bm m₁ l e (Ok tt) m₂ → bm.pairs m₂ ≡ update eqb (bm.pairs s.entries) n e
     stored st = st.answer.0 ∙ (λ i. update eqb (found.after i) (is i) e)
 
-    fits : is_some e ≡ true → Stores bm m₁ l e (Ok tt) m₂ → bm.fits (bm.shape s.entries) (beside (bm.pairs s.entries) n)
+    pub fits : is_some e ≡ true → Stores bm m₁ l e (Ok tt) m₂ → bm.fits (bm.shape s.entries) (beside (bm.pairs s.entries) n)
     fits some st = subst (λ (X : Type 0). X) (λ i. bm.fits (found.fit i) (beside (found.after i) (is i))) (st.answer.1 some)
 
   -- what is left where a find changed no pair
-  left_found : Unchanged bm sm s (over s m₁ s.pool s.out)
+  pub left_found : Unchanged bm sm s (over s m₁ s.pool s.out)
   left_found = record { fit = found.fit; pairs = found.after; stream_fit = refl; streams = refl; pool = refl; marks = refl; area = refl; out = refl; condemned = refl; limit = refl; fault = refl }
 
   module _ (free : out_of old ≡ None) where
@@ -85,7 +85,7 @@ module _ {L B S : Type 0} (bm : Ghosts B L Entry) (sm : Ghosts S StreamLabel Pos
       to_entry = ee ∙ (λ i. entry (settled_of (old_is i)) (Some (eu i)))
 
 module _ (k : Limits) (w : List ℕ) (f : ℕ → Option Entry) (x : ℕ → Option Position) (d : ℕ → mathlib.Core.Bool.Bool) (n : ℕ) (small : n < k.numbers) (free : out_of (f n) ≡ None) where
-  grants_it : (b : ℕ) (rest : List ℕ) → w ≡ b ∷ rest → k.blocks_fit (beside f n)
+  pub grants_it : (b : ℕ) (rest : List ℕ) → w ≡ b ∷ rest → k.blocks_fit (beside f n)
       → Step k (at w f x d) (begin n) (granted (grant_id n b)) (at rest (update eqb f n (entry (settled_of (f n)) (Some b))) x d)
   grants_it b rest e fits =
       inr (λ l. omega arith, inr (λ ne. ne free, inr (λ z. cons_nil (sym e ∙ z), inr (λ full. full.1 fits, (b, rest, e, refl, refl, λ _. fits)))))
@@ -95,7 +95,7 @@ module _ (k : Limits) (w : List ℕ) (f : ℕ → Option Entry) (x : ℕ → Opt
 
 -- the granted call, from what it leaves
 module _ {L B S : Type 0} (bm : Ghosts B L Entry) (sm : Ghosts S StreamLabel Position) (h : History) (s t : Service L B S) (lived : ReachedBy bm sm h s) (n b : ℕ) where
-  given_lives : n < s.limit → SentOut bm sm s n b (sm.pairs s.streams) t → ReachedBy bm sm ((begin n, granted (grant_id n b)) ∷ h) t
+  pub given_lives : n < s.limit → SentOut bm sm s n b (sm.pairs s.streams) t → ReachedBy bm sm ((begin n, granted (grant_id n b)) ∷ h) t
   given_lives small sent =
       lives bm sm h s t (begin n) lived (granted (grant_id n b)) (update eqb (bm.pairs s.entries) n (entry (settled_of (bm.pairs s.entries n)) (Some b)))
       (sm.pairs s.streams) (Popped s.pool b) s.marks.cells.now (more s.out) s.condemned sent.left

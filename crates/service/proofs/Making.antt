@@ -34,7 +34,7 @@ counts_none f k c none = go c.list c.long c.exact
     go (y ∷ ys) e x = absurd (true≢false (sym (in_head y ys) ∙ x y ∙ ap is_some (none y)))
 
 module _ {L B S : Type 0} (bm : Ghosts B L Entry) (sm : Ghosts S StreamLabel Position) (r : Service L B S) where
-  starts : r.fault ≡ None → r.limit < 2 ^ 32 → places r.pool ≤ 4096 → items r.pool ≡ range_with_len 0 (places r.pool) → Empty (bm.pairs r.entries) → Empty (sm.pairs r.streams)
+  pub starts : r.fault ≡ None → r.limit < 2 ^ 32 → places r.pool ≤ 4096 → items r.pool ≡ range_with_len 0 (places r.pool) → Empty (bm.pairs r.entries) → Empty (sm.pairs r.streams)
       → r.marks.cells.now ≡ replicate (places r.pool) Sound → r.out ≡ 0 → r.condemned ≡ 0 → ReachedBy bm sm [] r
   starts passed bound small pool eb es marks out gone = record {
     passed = passed;

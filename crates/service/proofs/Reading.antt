@@ -53,7 +53,7 @@ module _ {L B S : Type 0} (bm : Ghosts B L Entry) (sm : Ghosts S StreamLabel Pos
       before = old_is bm sm s n l is m₁ old seen
 
 module _ {L B S : Type 0} (bm : Ghosts B L Entry) (sm : Ghosts S StreamLabel Position) (h : History) (s t : Service L B S) (lived : ReachedBy bm sm h s) where
-  trimmed_lives : (n : ℕ) (o : Option ℕ) → Trimmed bm sm s n o t → ReachedBy bm sm ((trim n, block o) ∷ h) t
+  pub trimmed_lives : (n : ℕ) (o : Option ℕ) → Trimmed bm sm s n o t → ReachedBy bm sm ((trim n, block o) ∷ h) t
   trimmed_lives n o did =
       lives bm sm h s t (trim n) lived (block o) (update eqb (bm.pairs s.entries) n None) (sm.pairs s.streams) (Released s.pool o) s.marks.cells.now s.out s.condemned did.left
       (items s.pool ++ back o) (released_items s.pool t.pool o did.left.pool (waits_below (limits_of bm sm s) ((trim n, block o) ∷ h) ideal run))

@@ -25,7 +25,7 @@ pub front_none : (xs : List ℕ) → None ≡ slice_get xs 0 → xs ≡ []
 front_none [] e = refl
 front_none (x ∷ xs) e = absurd (true≢false (ap is_some (sym e)))
 
-not_empty : (b : ℕ) (w : List ℕ) → Some b ≡ slice_get w 0 → w ≡ [] → ⊥
+pub not_empty : (b : ℕ) (w : List ℕ) → Some b ≡ slice_get w 0 → w ≡ [] → ⊥
 not_empty b w e z = true≢false (ap is_some (e ∙ ap (λ v. slice_get v 0) z))
 
 pub front_pops : (p q : Ring ℕ) (o : Option ℕ) (b : ℕ) → Pops p o q → Some b ≡ slice_get (items p) 0 → Popped p b q
@@ -36,7 +36,7 @@ front_pops p q (Some x) b pops e =
 
 -- ---- a block that comes back
 
-one_more : (w : List ℕ) (b p : ℕ) → length (w ++ b ∷ []) ≤ p → length w < p
+pub one_more : (w : List ℕ) (b p : ℕ) → length (w ++ b ∷ []) ≤ p → length w < p
 one_more w b p l = omega (arith, simp length-append at l)
 
 pub released_items : (p q : Ring ℕ) (o : Option ℕ) → Released p o q → length (items p ++ back o) ≤ places p → items q ≡ items p ++ back o
