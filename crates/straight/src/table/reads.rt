@@ -29,6 +29,6 @@ impl<'a, L: Label, V: Copy> StraightMap<'a, L, V> {
     pub fn count(&self) -> usize
         ensures { result ≡ busy (live self.now.rows.now) }
     {
-        self.live().iter().filter(|row| row.used).count()
+        self.live().iter().map(|row| usize::from(row.used)).sum()
     }
 }
