@@ -26,7 +26,7 @@ module _ {L V : Type 0} (num : L → ℕ) where
   length_numbers : (xs : List (Row L V)) → length (numbers num xs) ≡ busy xs
   length_numbers xs = length-map (filter (λ r. r.used) xs) (λ r. num r.label)
 
-  apart_rest : (r : Row L V) (rs : List (Row L V)) → apart num (r ∷ rs) ≡ true → apart num rs ≡ true
+  pub apart_rest : (r : Row L V) (rs : List (Row L V)) → apart num (r ∷ rs) ≡ true → apart num rs ≡ true
   apart_rest r rs h = grind arith
 
   distinct_numbers : (xs : List (Row L V)) → apart num xs ≡ true → Distinct (numbers num xs)
