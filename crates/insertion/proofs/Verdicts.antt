@@ -133,7 +133,7 @@ module _ {L V : Type 0} (kind : Ghosts L) (bs : List (Bucket L V)) (l : L) where
       pub put_full : (v : V) → UsedUp kind bs n → Puts kind bs l v (Err Full) bs
       put_full v u = record { kept = kept; size = refl; stores = (none_look, no_room u, refl) }
 
-      ask_full : UsedUp kind bs n → Asks kind bs n false bs
+      pub ask_full : UsedUp kind bs n → Asks kind bs n false bs
       ask_full u = record { same = refl; answer = no_room u }
 
       -- moves lead back from the end of its search

@@ -30,6 +30,17 @@ module _ {L V : Type 0} where
       ap (λ m. with_mark m b ∷ ms) (mark_blank b.mark (h 0) (z 0).0 (z 0).1 (z 0).2)
       ∙ ap (λ y. with_mark blank_mark b ∷ y) (blank_all ms (λ i. h (suc i)) (λ i. z (suc i)))
 
+  pub wiped_none : (ms : List (Bucket L V)) (n : ℕ) → Wiped ms ms n 0
+  wiped_none ms n =
+      record {
+        long = refl;
+        same = refl;
+        ahead = λ i h. refl;
+        done = λ i h. absurd (omega arith);
+        past = λ m. m.blank;
+        left = λ m i e. let o = m.listed i e in (o.0, omega arith, o.1, o.2);
+      }
+
   module _ (old ms : List (Bucket L V)) (n j : ℕ) (l : Listed old n) (w : Wiped old ms n j) (h : j < n) where
     pub wiped_place : j < length ms
     wiped_place = let a = count_le old in let b = l.room in let c = w.long in omega arith

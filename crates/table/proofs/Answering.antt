@@ -1,5 +1,5 @@
 -- What find and take answer, from where the label was found.
-use Rattle.std.proofs.Common.{◌≡◌, ℕ, ◌<◌, true, false, cond, eqb, List, [], length, get_or, Some, None, sym, refl, ap, ◌∙◌, subst}
+use Rattle.std.proofs.Common.{◌≡◌, ℕ, ◌<◌, true, false, cond, eqb, List, [], length, get_or, Some, None, sym, refl, ap, ◌∙◌, subst, arith}
 use Rattle.std.proofs.lemmas.Bool.{cond-false, cond-true, true≢false}
 use Rattle.std.specs.Map.{update}
 use Rattle.label.specs.declared.Label.{Ghosts}
@@ -31,6 +31,14 @@ module _ {X : Type 0} (bs : List X) where
   live_wrong f = cond-false (allowed_size (length bs)) bs [] f
 
 module _ {L V : Type 0} (kind : Ghosts L) (bs : List (Bucket L V)) (n : ℕ) where
+  pub found_wrong : allowed_size (length bs) ≡ false → Finds kind bs n (record { payload = None; read = 0 })
+  found_wrong f =
+      record {
+        right = λ t. absurd (true≢false (sym t ∙ f));
+        wrong = λ _. (refl, refl);
+        answer = λ _. sym (ap (λ z. look kind z n) (live_wrong bs f));
+      }
+
   module _ (t : allowed_size (length bs) ≡ true) where
     some : 0 < length bs
     some = allowed_pos (length bs) (allowed_true (length bs) t)
@@ -76,6 +84,9 @@ module _ {L V : Type 0} (kind : Ghosts L) (bs : List (Bucket L V)) (n : ℕ) whe
         held = λ i k l. absurd (nowhere i k l);
         none = λ _. refl;
       }
+
+  pub took_wrong : allowed_size (length bs) ≡ false → WellKept kind (live bs) → Takes kind bs n None bs
+  took_wrong f kept = unchanged kept (subst (λ z. Nowhere kind z n) (sym (live_wrong bs f)) (λ i k l. let h = l.0 in omega arith))
 
   module _ (t : allowed_size (length bs) ≡ true) (kept : WellKept kind (live bs)) where
     abbrev at_rest : unmarked bs ≡ bs

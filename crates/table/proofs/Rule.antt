@@ -34,6 +34,9 @@ module _ {L V : Type 0} (kind : Ghosts L) (bs : List (Bucket L V)) (n : ℕ) whe
         none k (subst (λ z. Tagged kind (slot_of x k) z n) (sym at.tag) (subst (λ b. Tagged kind (slot_of b k) (tag_of (kind.spread n)) n) (sym is) (h.1 x)))
 
   module _ (p s t : ℕ) (at : Aim p s t) where
+    pub in_first : (k : ℕ) → Shows kind bs n p k → Looks kind bs n (Some (record { bucket = p; slot = k })) 1
+    in_first k h = inl (refl, at.first, subst (λ z. Shows kind bs n z k) at.first h)
+
     away : (s ≡ p → ⊥) → second_of kind (length bs) n ≡ first_of kind (length bs) n → ⊥
     away ne e = ne (at.second ∙ e ∙ sym at.first)
 

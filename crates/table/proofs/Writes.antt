@@ -1,9 +1,10 @@
 -- The reads and writes of the code, as what they make of the table.
 -- the writes that change two buckets, or one
-use Rattle.std.proofs.Common.{◌≡◌, ℕ, true, List, length, get_or, set, sym, ap, ◌∙◌}
+use Rattle.std.proofs.Common.{◌≡◌, ℕ, ◌<◌, true, List, length, get_or, set, sym, ap, ◌∙◌}
+use Rattle.std.proofs.lemmas.List.{get_or_default}
 use Rattle.label.specs.declared.Label.{Ghosts}
 use Rattle.bucket.specs.Changes.{filled, freed, modify, counted_back, counted_out}
-use Rattle.bucket.specs.Slots.{with_slot}
+use Rattle.bucket.specs.Slots.{slot_of, with_slot}
 use Rattle.bucket.specs.Spread.{first, mask_of, tag_of}
 use Rattle.bucket.specs.declared.slots.Bucket.{Bucket}
 use Rattle.bucket.specs.declared.slots.Slot.{Slot}
@@ -20,6 +21,12 @@ one_write : {X : Type 0} (f g : X → X) (bs : List X) (i p q : ℕ) (d y : X) �
 one_write f g bs i p q d y ey is pq = set_modify f bs i d y ey ∙ sym (at_both_same f g bs i p is) ∙ ap (at_both f g bs i) pq
 
 module _ {L V : Type 0} (bs : List (Bucket L V)) (i k : ℕ) where
+  pub slot_read : (x : Bucket L V) (s : Slot L V) → i < length bs → s ≡ slot_of (get_or bs i x) k → (d : Bucket L V) → s ≡ slot_of (get_or bs i d) k
+  slot_read x s lt e d = e ∙ ap (λ b. slot_of b k) (get_or_default bs i x d lt)
+
+  pub payload_read : (x : Bucket L V) (v : V) → i < length bs → v ≡ (slot_of (get_or bs i x) k).payload → (d : Bucket L V) → v ≡ (slot_of (get_or bs i d) k).payload
+  payload_read x v lt e d = e ∙ ap (λ b. (slot_of b k).payload) (get_or_default bs i x d lt)
+
   module _ (kind : Ghosts L) (l : L) (d p : ℕ) (ed : d ≡ kind.spread (kind.number l)) (ep : p ≡ first d (length bs)) where
     first_is : p ≡ first_of kind (length bs) (kind.number l)
     first_is = ep ∙ ap (λ z. first z (length bs)) ed
