@@ -12,13 +12,13 @@ nothing_left T p ss l (end _ e) = refl
 nothing_left T p ss l (short _ c) = absurd (omega arith)
 nothing_left T p ss l (field _ rs w h) = absurd (omega arith)
 
-one_more : (T : List ℕ) (q : ℕ) (r : Reading) (q' : ℕ) (ss : List Reading) → Next T q (Some r) q' → Reads T q' ss → Reads T q (r ∷ ss)
+pub one_more : (T : List ℕ) (q : ℕ) (r : Reading) (q' : ℕ) (ss : List Reading) → Next T q (Some r) q' → Reads T q' ss → Reads T q (r ∷ ss)
 one_more T q r q' ss (inl (c, e, b)) h =
     let n : ss ≡ [] = nothing_left T q' ss (omega (arith, b)) h in
     rw (e, n) (short q c)
 one_more T q r q' ss (inr (w, e, b)) h = rw e (field q ss w (rw b at h))
 
-drained : (r : Reader) (xs : List Reading) → DrainsIf Gives (Unit {0}) r xs → Reads r.tape.now r.place xs
+pub drained : (r : Reader) (xs : List Reading) → DrainsIf Gives (Unit {0}) r xs → Reads r.tape.now r.place xs
 drained r [] (t, same, ends) = rw same (end _ (ends tt).1.1.0)
 drained r (x ∷ xs) (t, (s, some, more), ends) = one_more _ _ x s.place xs some.1 (rw some.0 at (drained s xs (t, more, ends)))
 

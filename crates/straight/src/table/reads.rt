@@ -29,6 +29,7 @@ impl<'a, L: Label, V: Copy> StraightMap<'a, L, V> {
     pub fn count(&self) -> usize
         ensures { result ≡ busy (live self.now.rows.now) }
     {
+        // A sum, since a filtered count branches at each row.
         self.live().iter().map(|row| usize::from(row.used)).sum()
     }
 }
